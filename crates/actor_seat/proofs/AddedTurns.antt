@@ -1,23 +1,10 @@
 -- What a turn notes, and a core that closes by itself.
-use Rattle.std.proofs.Common.{◌≡◌, ℕ, ◌+◌, length, refl, ◌∙◌, ap, arith}
-use Rattle.std.specs.Prelude.{Bool, true, false, Option, Some, None, Result, ◌∷◌, Ok, Err}
-use Rattle.base_words.specs.declared.names.JobId.{JobId}
+use Rattle.actor_seat.proofs.Names.{ap, arith, Bool, ClosesItself, EndsTurn, Err, false, Follows, IsFurther, IsHandBack, IsPick, JobId, Journal, JournalView, length, Meaning, Mode, None, Ok, opening_of, Option, Order, PickError, Picks}
+use Rattle.actor_seat.proofs.Names.{poll_note, Reason, RecordedView, refl, Result, Some, true, Turn, ℕ, ◌+◌, ◌∙◌, ◌≡◌}
+use Rattle.std.specs.Prelude.{◌∷◌}
 use Rattle.base_words.specs.declared.note.Note.TheVariants as writes
-use Rattle.base_words.specs.declared.order.Mode.{Mode}
-use Rattle.base_words.specs.declared.order.Order.{Order}
-use Rattle.base_words.specs.declared.order.Reason.{Reason}
-use Rattle.base_words.specs.Journal.{Journal}
-use Rattle.core_core.specs.declared.turn.Turn.{Turn}
 use Rattle.core_core.specs.declared.turn.Turn.TheVariants.{Start, Resume, Back, Idle}
-use Rattle.core_core.specs.declared.turn.PickError.{PickError}
 use Rattle.core_core.specs.declared.turn.PickError.TheVariants.{Busy, Spent}
-use Rattle.base_jobs.specs.Meanings.{Meaning}
-use Rattle.note_journal.specs.Journals.{JournalView}
-use Rattle.actor_core.specs.Polls.{poll_note}
-use Rattle.actor_core.specs.Recorded.{RecordedView}
-use Rattle.actor_core.specs.Steps.{ClosesItself}
-use Rattle.actor_core.specs.Turns.{EndsTurn, Follows, IsFurther, IsHandBack, IsPick, Picks}
-use Rattle.actor_seat.specs.Queues.{opening_of}
 use Rattle.actor_seat.proofs.Adding.{Adds, adds_along, adds_none, adds_one, adds_within}
 use Rattle.actor_seat.proofs.Growing.{grows_returned}
 use Rattle.actor_seat.proofs.Openings.{opening_returned}

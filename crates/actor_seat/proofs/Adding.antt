@@ -1,23 +1,10 @@
 -- What an actor notes of its own submissions.
-use Rattle.std.proofs.Common.{◌≡◌, ℕ, ◌+◌, ◌≤◌, length, refl, ◌∙◌, ap, arith}
-use Rattle.std.specs.Prelude.{[], ◌∷◌, Result, Ok, Err}
-use Rattle.std.proofs.lemmas.List.{length-append}
-use Rattle.base_words.specs.declared.names.JobId.{JobId}
-use Rattle.base_words.specs.declared.names.TicketError.{TicketError}
+use Rattle.actor_seat.proofs.Names.{ap, arith, CollectsFrom, DeskView, DetachesTicket, Err, Grows, JobId, Journal, length, length-append, Note, Ok, opening_of, Order, Outcome, outcome_note, RedeemsTicket, refl, Result, SendError, Submits}
+use Rattle.actor_seat.proofs.Names.{TicketError, without_job, ℕ, ◌+◌, ◌∙◌, ◌≡◌, ◌≤◌}
+use Rattle.std.specs.Prelude.{[], ◌∷◌}
 use Rattle.base_words.specs.declared.names.TicketError.TheVariants.{Unknown, Gone, Pending}
-use Rattle.base_words.specs.declared.note.Note.{Note}
 use Rattle.base_words.specs.declared.note.Note.TheVariants.{Sent, Redeemed, Detached}
-use Rattle.base_words.specs.declared.order.Order.{Order}
-use Rattle.base_words.specs.declared.order.Outcome.{Outcome}
-use Rattle.base_words.specs.declared.order.SendError.{SendError}
 use Rattle.base_words.specs.declared.order.SendError.TheVariants.{Closed, Full, Spent, NoCore}
-use Rattle.base_words.specs.Journal.{Journal}
-use Rattle.base_words.specs.Orders.{without_job}
-use Rattle.base_words.specs.Outcomes.{outcome_note}
-use Rattle.actor_desk.specs.Submissions.{DeskView, Submits}
-use Rattle.actor_desk.specs.Tickets.{CollectsFrom, RedeemsTicket, DetachesTicket}
-use Rattle.actor_seat.specs.Linked.{Grows}
-use Rattle.actor_seat.specs.Queues.{opening_of}
 use Rattle.actor_seat.proofs.Along.{grows_along}
 use Rattle.actor_seat.proofs.Openings.{opening_collected}
 

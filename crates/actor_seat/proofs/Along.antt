@@ -1,14 +1,6 @@
 -- Steps one after another.
-use Rattle.std.proofs.Common.{ℕ, ◌-◌, [], ◌++◌, length, refl, sym, ◌∙◌, ap, arith}
-use Rattle.std.proofs.lemmas.List.{append_assoc}
-use Rattle.base_words.specs.Journal.{Journal}
-use Rattle.actor_core.specs.Recorded.{RecordedView}
-use Rattle.actor_core.specs.Ends.{IsSameSeat, KeepsIn}
-use Rattle.actor_desk.specs.Ends.{KeepsOuts}
-use Rattle.actor_desk.specs.Submissions.{DeskView}
-use Rattle.link_ring.proofs.Using.{ends_same, ends_along}
-use Rattle.link_ring.specs.Ends.{EndsView}
-use Rattle.actor_seat.specs.Linked.{LinkedView, Grows, RunsOn, SeesNoLess, StaysLinked}
+use Rattle.actor_seat.proofs.Names.{ap, append_assoc, arith, DeskView, ends_along, ends_same, EndsView, Grows, IsSameSeat, Journal, KeepsIn, KeepsOuts, length, LinkedView, RecordedView, refl, RunsOn, SeesNoLess, StaysLinked, sym, ℕ, []}
+use Rattle.actor_seat.proofs.Names.{◌++◌, ◌-◌, ◌∙◌}
 
 module _ {T : Type 0} where
   pub grows_same : (notes : Journal T) → Grows notes notes

@@ -1,12 +1,9 @@
 -- Who has something from a note, and small journals beside bells that were rung for others.
-use Rattle.std.proofs.Common.{◌≡◌, ℕ, cond, List, [], ◌∷◌, refl}
-use Rattle.std.specs.Prelude.{◌==◌, ◌||◌, Bool, true, false, Some, None, is_some}
-use Rattle.base_words.specs.declared.names.JobId.{JobId}
+use Rattle.actor_seat.proofs.Names.{Bool, cond, false, HasRung, is_some, JobId, List, None, NotesAreForLinks, refl, Some, told_by, true, ℕ, [], ◌==◌, ◌||◌, ◌∷◌, ◌≡◌}
 use Rattle.base_words.specs.declared.note.Note.TheVariants.{Sent, Back, Answered, Done, Returned, Redeemed, Park, Stayed, Woken}
 use Rattle.base_words.specs.declared.note.OutcomeNote.TheVariants.{Finished}
 use Rattle.base_words.specs.declared.order.Mode.TheVariants.{Return}
 use Rattle.base_words.specs.declared.order.Order.TheVariants.{CloseCore, Wake}
-use Rattle.actor_seat.specs.Bells.{told_by, HasRung, NotesAreForLinks}
 
 sent_if : {A : Type 0} (item : A) (test : Bool) → test ≡ (is_some (cond test (Some item) None) || false)
 sent_if item true = refl

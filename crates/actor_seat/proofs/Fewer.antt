@@ -1,18 +1,9 @@
 -- How many notes a delivery and a collecting write.
-use Rattle.std.proofs.Common.{◌≡◌, ℕ, ◌+◌, ◌≤◌, true, false, List, [], ◌∷◌, length, ◌∙◌, ap, arith}
-use Rattle.std.specs.Prelude.{Bool, Option, Some, None}
-use Rattle.std.proofs.lemmas.List.{length-append}
-use Rattle.base_words.specs.declared.names.JobId.{JobId}
-use Rattle.base_words.specs.declared.note.Note.{Note}
+use Rattle.actor_seat.proofs.Names.{Answer, ap, arith, Bool, CollectsOf, DeliversFrom, effect_note, IsDelivery, JobId, Journal, length, length-append, LinkedView, List, None, Note, Option, Order, Some, with_effect, ℕ, [], ◌+◌, ◌∙◌, ◌∷◌}
+use Rattle.actor_seat.proofs.Names.{◌≡◌, ◌≤◌}
+use Rattle.std.proofs.Common.{true, false}
 use Rattle.base_words.specs.declared.note.Note.TheVariants as writes
-use Rattle.base_words.specs.declared.order.Order.{Order}
 use Rattle.base_words.specs.declared.order.Order.TheVariants.{Job, Create, SetShares, Close, CloseCore, Wake}
-use Rattle.base_words.specs.declared.order.Answer.{Answer}
-use Rattle.base_words.specs.Journal.{Journal}
-use Rattle.base_words.specs.Commands.{effect_note}
-use Rattle.actor_core.specs.Deliveries.{IsDelivery, with_effect}
-use Rattle.actor_seat.specs.Linked.{LinkedView}
-use Rattle.actor_seat.specs.Steps.{CollectsOf, DeliversFrom}
 
 module _ {T : Type 0} (name : JobId) (before : Journal T) where
   -- one or two notes

@@ -1,18 +1,6 @@
 -- Each step of a worker leaves the notes that stand in its journal.
-use Rattle.std.proofs.Common.{◌≡◌, ◌+◌, ◌≤◌, [], ◌∷◌, length, ◌∙◌, ap, arith}
-use Rattle.std.specs.Prelude.{Bool, true, false}
-use Rattle.std.proofs.lemmas.List.{length-append}
-use Rattle.base_words.specs.declared.names.JobId.{JobId}
+use Rattle.actor_seat.proofs.Names.{ap, arith, Bool, Delivers, false, Grows, Inward, IsHandBack, JobId, Journal, length, length-append, Meaning, Order, Reason, RecordedView, true, [], ◌+◌, ◌∙◌, ◌∷◌, ◌≡◌, ◌≤◌}
 use Rattle.base_words.specs.declared.note.Note.TheVariants as writes
-use Rattle.base_words.specs.declared.order.Order.{Order}
-use Rattle.base_words.specs.declared.order.Reason.{Reason}
-use Rattle.base_words.specs.Journal.{Journal}
-use Rattle.base_jobs.specs.Meanings.{Meaning}
-use Rattle.link_ends.specs.declared.ends.Inward.{Inward}
-use Rattle.actor_core.specs.Recorded.{RecordedView}
-use Rattle.actor_core.specs.Steps.{Delivers}
-use Rattle.actor_core.specs.Turns.{IsHandBack}
-use Rattle.actor_seat.specs.Linked.{Grows}
 
 module _ {T : Type 0} where
   -- a journal that has grown isn't shorter

@@ -1,25 +1,9 @@
 -- A core and its ends after a job was handed back: its outcome is owed to its sender.
-use Rattle.std.proofs.Common.{◌≡◌, ℕ, ◌+◌, ◌≤◌, cond, refl, sym, ◌∙◌, ap, subst, arith}
-use Rattle.std.specs.Prelude.{Some, None, Result, Ok}
-use Rattle.std.proofs.lemmas.Bool.{eq-eqb, ne_eqb}
-use Rattle.base_words.specs.declared.names.JobId.{JobId}
-use Rattle.base_words.specs.declared.order.Order.{Order}
-use Rattle.base_words.specs.declared.order.Outcome.{Outcome}
-use Rattle.base_words.specs.declared.order.Reason.{Reason}
+use Rattle.actor_seat.proofs.Names.{ap, AreBeside, AreOwing, arith, cond, desk_of, EndsView, eq-eqb, if_from, in_at, IsHandBack, IsInOwing, IsSameSeat, IsSentUnder, JobId, KeepsOuts, LeavesOwed, Meaning, ne_eqb, None, Ok, Order}
+use Rattle.actor_seat.proofs.Names.{order_taken, Outcome, owed_back, PickError, Picks, Reason, RecordedView, refl, Result, Some, subst, sym, Turn, ℕ, ◌+◌, ◌∙◌, ◌≡◌, ◌≤◌}
 use Rattle.base_words.specs.declared.note.OutcomeNote.TheVariants.{Returned}
-use Rattle.base_words.specs.Filters.{if_from}
-use Rattle.core_core.specs.declared.turn.Turn.{Turn}
 use Rattle.core_core.specs.declared.turn.Turn.TheVariants.{Back}
-use Rattle.core_core.specs.declared.turn.PickError.{PickError}
-use Rattle.link_ring.specs.Ends.{EndsView, in_at}
-use Rattle.actor_core.specs.Recorded.{RecordedView, desk_of, order_taken}
-use Rattle.actor_desk.specs.Ends.{KeepsOuts}
-use Rattle.actor_core.specs.Ends.{IsSameSeat, LeavesOwed, IsInOwing}
-use Rattle.actor_core.specs.Owed.{owed_back, IsSentUnder}
-use Rattle.actor_core.specs.Turns.{Picks, IsHandBack}
-use Rattle.actor_seat.specs.Linked.{AreBeside, AreOwing}
 use Rattle.actor_seat.proofs.Stepping.{sends_kept}
-use Rattle.base_jobs.specs.Meanings.{Meaning}
 
 module _ {J T : Type 0} (old new : RecordedView J T) (picked : Result (Turn J) PickError) (name : JobId) (reason : Reason) (order : Order J) (is : picked ≡ Ok (Back name reason order)) where
   pub handed_back : (meaning : Meaning J T) → Picks meaning old picked new → IsHandBack meaning old name reason order new

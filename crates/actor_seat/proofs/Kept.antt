@@ -1,17 +1,7 @@
 -- A core and its ends after a step that touched none of them.
-use Rattle.std.proofs.Common.{◌≡◌, ℕ, ◌+◌, None, sym, ◌∙◌, ap, arith}
-use Rattle.std.specs.Prelude.{Bool, true, false}
-use Rattle.base_words.specs.declared.order.Mode.{Mode}
-use Rattle.base_jobs.specs.Meanings.{Meaning}
-use Rattle.actor_core.specs.Ends.{IsSameSeat, KeepsIn}
-use Rattle.actor_core.specs.Recorded.{RecordedView, IsRecorded, desk_of}
-use Rattle.actor_core.specs.Steps.{ClosesItself}
-use Rattle.actor_desk.specs.Ends.{KeepsOuts}
-use Rattle.link_ends.specs.Fits.{Fits}
-use Rattle.link_ring.proofs.Using.{ends_same}
-use Rattle.link_ring.specs.Ends.{EndsView}
-use Rattle.actor_seat.specs.Linked.{AreBeside, IsLinked, PollsAsOwed, StaysLinked}
-use Rattle.actor_seat.specs.Seats.{IsSeated}
+use Rattle.actor_seat.proofs.Names.{ap, AreBeside, arith, Bool, ClosesItself, desk_of, ends_same, EndsView, false, Fits, IsLinked, IsRecorded, IsSameSeat, IsSeated, KeepsIn, KeepsOuts, Meaning, Mode, PollsAsOwed, RecordedView, StaysLinked}
+use Rattle.actor_seat.proofs.Names.{sym, true, ℕ, ◌+◌, ◌∙◌, ◌≡◌}
+use Rattle.std.proofs.Common.{None}
 use Rattle.actor_seat.proofs.Adding.{Adds}
 use Rattle.actor_seat.proofs.Along.{sees_same}
 use Rattle.actor_seat.proofs.Stepping.{sends_kept}

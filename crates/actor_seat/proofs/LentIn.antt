@@ -1,31 +1,10 @@
 -- The end of one sender, as it is lent, and what a delivery, a shut gate or a settled poll on it leaves. A job may be out meanwhile.
-use Rattle.std.proofs.Common.{◌≡◌, ◌≢◌, ℕ, ◌≤◌, length, refl, sym, subst, ◌∙◌, ap, arith}
-use Rattle.std.specs.Prelude.{Bool, true, false, None, [], ◌∷◌}
-use Rattle.base_words.specs.declared.names.JobId.{JobId}
+use Rattle.actor_seat.proofs.Names.{AfterPoll, ap, AreBeside, arith, Bool, Delivers, delivers_keep, DeliversFrom, desk_of, EndsView, false, Fits, Grows, in_at, IsInOf, IsLinked, IsRecorded, IsSameSeat, IsSeated, JobId, Journal, KeepsIn}
+use Rattle.actor_seat.proofs.Names.{KeepsOuts, length, Meaning, None, opening_of, out_told, Receiving, RecordedView, refl, seen_by, Sending, settle_note, Settled, Settles, Shuts, shuts_keep, ShutsGate, StaysLinked, subst, sym, TellsShut}
+use Rattle.actor_seat.proofs.Names.{true, with_in, ℕ, ◌∙◌, ◌≡◌, ◌≢◌, ◌≤◌}
+use Rattle.std.specs.Prelude.{[], ◌∷◌}
 use Rattle.base_words.specs.declared.note.Note.TheVariants.{Shut}
-use Rattle.base_words.specs.Journal.{Journal}
-use Rattle.core_core.specs.declared.turn.Settled.{Settled}
 use Rattle.core_core.specs.declared.turn.Settled.TheVariants.{Yielded, Parked, Stayed, Finished}
-use Rattle.base_jobs.specs.Meanings.{Meaning}
-use Rattle.base_jobs.specs.Steps.{AfterPoll}
-use Rattle.link_ends.specs.Calls.{Shuts}
-use Rattle.link_ends.specs.Fits.{Fits}
-use Rattle.link_ring.specs.declared.ring_in.Receiving.{Receiving}
-use Rattle.link_ring.specs.declared.ring_out.Sending.{Sending}
-use Rattle.actor_core.specs.Recorded.{RecordedView, IsRecorded, desk_of}
-use Rattle.actor_core.specs.Ends.{IsInOf, IsSameSeat, KeepsIn}
-use Rattle.actor_core.specs.OwedPolls.{seen_by}
-use Rattle.actor_core.specs.Polls.{settle_note}
-use Rattle.actor_core.specs.Steps.{Delivers, TellsShut, out_told}
-use Rattle.actor_core.specs.Turns.{Settles}
-use Rattle.actor_core.proofs.OwedSteps.{delivers_keep, shuts_keep}
-use Rattle.actor_desk.specs.Ends.{KeepsOuts}
-use Rattle.link_ring.specs.Ends.{EndsView, in_at}
-use Rattle.link_ring.specs.Lending.{with_in}
-use Rattle.actor_seat.specs.Linked.{AreBeside, Grows, IsLinked, StaysLinked}
-use Rattle.actor_seat.specs.Seats.{IsSeated}
-use Rattle.actor_seat.specs.Steps.{ShutsGate, DeliversFrom}
-use Rattle.actor_seat.specs.Queues.{opening_of}
 use Rattle.actor_seat.proofs.Openings.{opening_delivers, opening_shut}
 use Rattle.actor_seat.proofs.Growing.{grows_delivers}
 use Rattle.actor_seat.proofs.Seen.{delivers_seen, prefix_shorter}

@@ -1,33 +1,8 @@
 -- The end to one core, as it is lent, and what a call on it leaves.
-use Rattle.std.proofs.Common.{◌≡◌, inl, inr, ℕ, ◌+◌, ◌<◌, ◌≤◌, List, length, set, get_or-set_same, get_or-set_other, length-set, refl, sym, ◌∙◌, ap, subst, arith}
-use Rattle.std.specs.Prelude.{Some, Result, Ok, Err, IfOk, slice_get}
-use Rattle.std.proofs.lemmas.Bool.Decides.{eqb_tells}
-use Rattle.std.proofs.lemmas.List.{length-append}
-use Rattle.std.proofs.lemmas.Option.{slice_get-get_or}
-use Rattle.base_words.specs.declared.order.Order.{Order}
-use Rattle.base_words.specs.declared.order.SendError.{SendError}
+use Rattle.actor_seat.proofs.Names.{ap, AreBeside, AreOutsOf, arith, changed, collects_keep, CollectsFrom, CollectsOf, desk_of, DeskView, EndsView, eqb_tells, Err, Fits, get_or-set_other, get_or-set_same, GetsAll, HasLane, IfOk, inl, inr}
+use Rattle.actor_seat.proofs.Names.{IsLinked, IsOutOf, IsRecorded, IsSameSeat, IsSeated, KeepsIn, length, length-append, length-set, List, Meaning, no_out, Ok, Order, out_at, out_used, Outward, RecordedView, refl, Result, SameEnds, seen_by}
+use Rattle.actor_seat.proofs.Names.{seen_got, sees_more_owed, SeesNoLess, SendError, Sending, Sends, set, slice_get, slice_get-get_or, Some, StaysBeside, StaysLinked, subst, sym, unchanged, UsesOut, with_out, ℕ, ◌+◌, ◌<◌, ◌∙◌, ◌≡◌, ◌≤◌}
 use Rattle.base_words.specs.declared.order.SendError.TheVariants.{Closed, Full, Spent, NoCore}
-use Rattle.actor_desk.proofs.Cores.{changed, unchanged}
-use Rattle.base_jobs.specs.Meanings.{Meaning}
-use Rattle.link_ends.specs.declared.ends.Outward.{Outward}
-use Rattle.link_ends.specs.Calls.{Sends}
-use Rattle.link_ends.specs.Fits.{Fits}
-use Rattle.link_ring.specs.declared.ring_out.Sending.{Sending}
-use Rattle.actor_core.specs.Recorded.{RecordedView, IsRecorded, desk_of}
-use Rattle.actor_core.specs.Ends.{IsSameSeat, KeepsIn}
-use Rattle.actor_core.specs.OwedPolls.{seen_by}
-use Rattle.actor_core.proofs.OwedSteps.{collects_keep, sees_more_owed}
-use Rattle.actor_core.proofs.OwedTurns.{seen_got}
-use Rattle.actor_desk.specs.Ends.{IsOutOf}
-use Rattle.actor_desk.specs.Posts.{AreOutsOf}
-use Rattle.actor_desk.specs.Submissions.{DeskView}
-use Rattle.actor_desk.specs.Tickets.{CollectsFrom, GetsAll, HasLane, StaysBeside}
-use Rattle.link_ring.specs.Ends.{EndsView, out_at, no_out, SameEnds}
-use Rattle.link_ring.specs.Lending.{with_out}
-use Rattle.link_ring.proofs.Using.{out_used}
-use Rattle.actor_seat.specs.Linked.{AreBeside, IsLinked, SeesNoLess, StaysLinked}
-use Rattle.actor_seat.specs.Seats.{IsSeated, UsesOut}
-use Rattle.actor_seat.specs.Steps.{CollectsOf}
 use Rattle.actor_seat.proofs.Adding.{Adds, collects_add}
 use Rattle.actor_seat.proofs.Posted.{resent_beside}
 use Rattle.actor_seat.proofs.Seen.{out_put_sees, prefix_shorter}

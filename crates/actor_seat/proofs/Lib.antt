@@ -1,3 +1,4 @@
+mod Names
 pub mod Along
 pub mod Growing
 pub mod Openings

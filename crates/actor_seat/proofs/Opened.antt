@@ -1,32 +1,8 @@
 -- A core that was just opened, over ends of links that were just opened.
-use Rattle.std.proofs.Common.{◌≡◌, ℕ, ◌+◌, ◌<◌, ◌≤◌, [], ◌∷◌, length, refl, sym, ◌∙◌, ap, subst, arith}
-use Rattle.std.specs.Prelude.{Ok, Option, Some, slice_get}
-use Rattle.std.proofs.lemmas.Option.{slice_get_within, get_or_from_slice_get}
-use Rattle.base_words.specs.Terms.{Terms}
-use Rattle.base_words.specs.declared.names.JobId.{JobId}
-use Rattle.base_words.specs.declared.order.Outcome.{Outcome}
-use Rattle.base_words.specs.declared.order.Order.{Order}
+use Rattle.actor_seat.proofs.Names.{ap, AreEndsOf, arith, CreatesQueue, CreatesSince, desk_of, EndsView, Fits, fresh, fresh_has_lane, get_or_from_slice_get, HasLane, in_at, inward_of, IsFreshOut, IsInOf, IsLaneOf, IsLinked, IsOpenedOver}
+use Rattle.actor_seat.proofs.Names.{IsOpening, IsOutOf, IsRecorded, IsSameSeat, IsUnused, IsUnused-fresh, JobId, Journal, KeepsIn, KeepsOuts, length, Meaning, no_out, Ok, opened_beside, opened_desk, Option, Order, order_taken, out_of}
+use Rattle.actor_seat.proofs.Names.{Outcome, PollsAreOwed, RecordedView, refl, Seen, seen_by, Sending, slice_get, slice_get_within, Some, subst, sym, Terms, terms_at, ℕ, [], ◌+◌, ◌<◌, ◌∙◌, ◌∷◌, ◌≡◌, ◌≤◌}
 use Rattle.base_words.specs.declared.note.Note.TheVariants.{Created}
-use Rattle.base_words.specs.Commands.{IsOpening}
-use Rattle.base_words.specs.Journal.{Journal}
-use Rattle.base_jobs.specs.Meanings.{Meaning}
-use Rattle.actor_desk.specs.Lanes.{IsLaneOf, IsUnused}
-use Rattle.actor_desk.proofs.Cores.{IsUnused-fresh}
-use Rattle.link_ring.specs.declared.ring_out.Sending.{Sending}
-use Rattle.link_ends.specs.Fits.{Fits}
-use Rattle.link_ends.specs.Whole.{fresh, out_of, inward_of}
-use Rattle.actor_core.specs.OwedPolls.{PollsAreOwed, seen_by}
-use Rattle.actor_core.specs.RightAnswers.{Seen}
-use Rattle.actor_core.specs.Recorded.{RecordedView, IsRecorded, desk_of, order_taken, terms_at}
-use Rattle.actor_core.specs.Ends.{IsInOf, IsSameSeat, KeepsIn}
-use Rattle.actor_desk.specs.Ends.{IsOutOf, KeepsOuts}
-use Rattle.actor_core.specs.Steps.{opened_beside, CreatesQueue}
-use Rattle.actor_desk.specs.Submissions.{opened_desk}
-use Rattle.actor_desk.specs.Tickets.{HasLane}
-use Rattle.actor_desk.proofs.LaneEnds.{fresh_has_lane}
-use Rattle.link_ring.specs.Ends.{EndsView, IsFreshOut, in_at, no_out}
-use Rattle.actor_seat.specs.Linked.{IsLinked}
-use Rattle.actor_seat.specs.Opening.{AreEndsOf, IsOpenedOver, CreatesSince}
 use Rattle.actor_seat.proofs.Along.{ins_along, outs_along, seat_along, seat_same}
 
 module _ {J T : Type 0} (meaning : Meaning J T) (terms : Terms) (seen : Seen J) (under : JobId → Option (Order J)) where

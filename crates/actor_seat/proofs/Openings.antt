@@ -1,26 +1,10 @@
 -- No step of a worker changes what was created at the opening.
-use Rattle.std.proofs.Common.{◌≡◌, ℕ, ◌+◌, Bool, true, false, if◌then◌else◌, List, [], ◌∷◌, ◌++◌, refl, sym, ◌∙◌, ap, subst}
-use Rattle.std.specs.Prelude.{Option, Some, None}
-use Rattle.base_words.specs.declared.names.JobId.{JobId}
-use Rattle.base_words.specs.declared.note.Note.{Note}
+use Rattle.actor_seat.proofs.Names.{Answer, ap, AreCollected, ArePosts, Delivers, effect_note, entry_note, if◌then◌else◌, Inward, is_opening, IsDelivery, IsHandBack, JobId, Journal, JournalView, List, Meaning, None, Note, opening_of}
+use Rattle.actor_seat.proofs.Names.{Option, Order, Reason, RecordedView, refl, refusal, Some, subst, sym, TellsShut, with_effect, ℕ, [], ◌++◌, ◌+◌, ◌∙◌, ◌∷◌, ◌≡◌}
+use Rattle.std.proofs.Common.{Bool, true, false}
 use Rattle.base_words.specs.declared.note.Note.TheVariants as writes
-use Rattle.base_words.specs.declared.order.Order.{Order}
 use Rattle.base_words.specs.declared.order.Order.TheVariants.{Job, Create, SetShares, Close, CloseCore, Wake}
-use Rattle.base_words.specs.declared.order.Reason.{Reason}
-use Rattle.base_words.specs.declared.order.Answer.{Answer}
 use Rattle.base_words.specs.declared.order.Answer.TheVariants as answers
-use Rattle.base_words.specs.Journal.{Journal}
-use Rattle.base_words.specs.Commands.{refusal, effect_note}
-use Rattle.base_jobs.specs.Meanings.{Meaning}
-use Rattle.link_ends.specs.declared.ends.Inward.{Inward}
-use Rattle.note_journal.specs.Journals.{JournalView}
-use Rattle.actor_core.specs.Deliveries.{IsDelivery, entry_note, with_effect}
-use Rattle.actor_desk.specs.Posts.{ArePosts}
-use Rattle.actor_core.specs.Recorded.{RecordedView}
-use Rattle.actor_core.specs.Steps.{Delivers, TellsShut}
-use Rattle.actor_desk.specs.Tickets.{AreCollected}
-use Rattle.actor_core.specs.Turns.{IsHandBack}
-use Rattle.actor_seat.specs.Queues.{is_opening, opening_of}
 
 module _ {T : Type 0} where
   -- a journal of creations alone

@@ -1,28 +1,7 @@
 -- The outside actor while one of its ends is lent, what a call on it leaves, and what it is at its opening.
-use Rattle.std.proofs.Common.{◌≡◌, ℕ, ◌+◌, ◌<◌, ◌≤◌, length, get_or, get_or-set_same, sym, ◌∙◌, ap, subst, arith}
-use Rattle.std.specs.Prelude.{Result, Some, slice_get}
-use Rattle.std.proofs.lemmas.List.{get_or_default, length-replicate}
-use Rattle.std.proofs.lemmas.Option.{get_or_from_slice_get, slice_get-get_or, slice_get_within}
-use Rattle.base_words.specs.declared.order.Order.{Order}
-use Rattle.base_words.specs.declared.order.Outcome.{Outcome}
-use Rattle.base_words.specs.Journal.{Journal}
-use Rattle.base_jobs.specs.Meanings.{Meaning}
-use Rattle.link_ends.specs.Fits.{Fits}
-use Rattle.link_ends.specs.Whole.{fresh, out_of}
-use Rattle.link_ring.specs.declared.ring_out.Sending.{Sending}
-use Rattle.link_ring.specs.Ends.{AreFresh, EndsView, no_out, out_at}
-use Rattle.link_ring.specs.Lending.{with_out}
-use Rattle.actor_desk.specs.Lanes.{IsUnused, fresh_lane}
-use Rattle.actor_desk.proofs.Cores.{IsUnused-fresh}
-use Rattle.note_journal.specs.Passing.{PassesOn}
-use Rattle.note_journal.specs.declared.sink.Refused.{Refused}
-use Rattle.actor_desk.specs.Ends.{IsOutOf}
-use Rattle.actor_desk.specs.Submissions.{DeskView, IsWritten, opened_desk, terms_of_desk}
-use Rattle.actor_desk.specs.Tickets.{HasLane, StaysBeside}
-use Rattle.actor_desk.proofs.LaneEnds.{fresh_has_lane}
-use Rattle.actor_seat.specs.Linked.{Grows}
-use Rattle.actor_seat.specs.OutsideSeats.{IsSeatedOutside, UsesOutside}
-use Rattle.actor_seat.specs.OutsideSeats.{OutsideView}
+use Rattle.actor_seat.proofs.Names.{ap, AreFresh, arith, DeskView, EndsView, Fits, fresh, fresh_has_lane, fresh_lane, get_or, get_or-set_same, get_or_default, get_or_from_slice_get, Grows, HasLane, IsOutOf, IsSeatedOutside, IsUnused}
+use Rattle.actor_seat.proofs.Names.{IsUnused-fresh, IsWritten, Journal, length, length-replicate, Meaning, no_out, opened_desk, Order, out_at, out_of, Outcome, OutsideView, PassesOn, Refused, Result, Sending, slice_get, slice_get-get_or}
+use Rattle.actor_seat.proofs.Names.{slice_get_within, Some, StaysBeside, subst, sym, terms_of_desk, UsesOutside, with_out, ℕ, ◌+◌, ◌<◌, ◌∙◌, ◌≡◌, ◌≤◌}
 use Rattle.actor_seat.proofs.LentOut.{AreOuts, LendsOut, out_beside, out_ends, out_lane, out_uses, outs_now}
 use Rattle.actor_seat.proofs.Opened.{fresh_out}
 use Rattle.actor_seat.proofs.Passed.{desk_passed, outs_again, same_notes}

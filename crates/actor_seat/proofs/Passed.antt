@@ -1,22 +1,6 @@
 -- What it changes to pass on notes: nothing but what is kept, and how many notes there may be.
-use Rattle.std.proofs.Common.{◌≡◌, ◌⊎◌, inl, inr, ℕ, ◌+◌, ◌≤◌, List, length, sym, ◌∙◌, ap, subst, arith}
-use Rattle.std.specs.Prelude.{Result, Ok, Err}
-use Rattle.base_words.specs.Journal.{Journal}
-use Rattle.base_jobs.specs.Meanings.{Meaning}
-use Rattle.actor_desk.specs.Ends.{IsOutOf}
-use Rattle.actor_desk.specs.Submissions.{DeskView}
-use Rattle.note_journal.specs.Journals.{JournalView, free_notes, places_of}
-use Rattle.note_journal.specs.Passing.{PassesOn}
-use Rattle.note_journal.specs.declared.sink.Refused.{Refused}
-use Rattle.actor_core.specs.Ends.{IsInOf}
-use Rattle.actor_core.specs.Recorded.{IsRecorded, RecordedView, desk_of}
-use Rattle.link_ends.specs.Fits.{Fits}
-use Rattle.link_ends.specs.declared.ends.Inward.{Inward}
-use Rattle.link_ends.specs.declared.ends.Outward.{Outward}
-use Rattle.link_ring.specs.declared.ring_out.Sending.{Sending}
-use Rattle.link_ring.specs.Ends.{EndsView}
-use Rattle.actor_seat.specs.Linked.{AreBeside, IsLinked, PollsAsOwed}
-use Rattle.actor_seat.specs.Seats.{IsSeated}
+use Rattle.actor_seat.proofs.Names.{ap, AreBeside, arith, desk_of, DeskView, EndsView, Err, Fits, free_notes, inl, inr, Inward, IsInOf, IsLinked, IsOutOf, IsRecorded, IsSeated, Journal, JournalView, length, List, Meaning, Ok, Outward}
+use Rattle.actor_seat.proofs.Names.{PassesOn, places_of, PollsAsOwed, RecordedView, Refused, Result, Sending, subst, sym, ℕ, ◌+◌, ◌∙◌, ◌≡◌, ◌≤◌, ◌⊎◌}
 use Rattle.actor_seat.proofs.LentOut.{AreOuts}
 
 module _ {J T : Type 0} where

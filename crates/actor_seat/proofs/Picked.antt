@@ -1,29 +1,10 @@
 -- A core and its ends after a pick.
-use Rattle.std.proofs.Common.{◌≡◌, ℕ, ◌≤◌, None, subst, ◌∙◌, ap}
-use Rattle.std.specs.Prelude.{Result, Ok, Err}
-use Rattle.base_words.specs.declared.names.JobId.{JobId}
-use Rattle.base_words.specs.declared.order.Order.{Order}
-use Rattle.base_words.specs.declared.order.Reason.{Reason}
-use Rattle.core_core.specs.declared.turn.Turn.{Turn}
+use Rattle.actor_seat.proofs.Names.{ap, desk_of, EndsView, Err, IsBack, IsLinked, IsReadyTurn, IsRecorded, IsSameSeat, JobId, KeepsOuts, LeavesOwed, Meaning, Ok, Order, order_taken, owed_back, PickError, Picks, picks_keep, PicksTaken}
+use Rattle.actor_seat.proofs.Names.{Reason, RecordedView, Result, SameEnds, seen_by, SeesNoLess, Sending, StaysLinked, subst, Taken, taken_of, TellsAhead, Turn, ℕ, ◌∙◌, ◌≡◌, ◌≤◌}
+use Rattle.std.proofs.Common.{None}
 use Rattle.core_core.specs.declared.turn.Turn.TheVariants.{Back}
-use Rattle.core_core.specs.declared.turn.PickError.{PickError}
 use Rattle.core_core.specs.declared.turn.PickError.TheVariants.{Busy, Spent}
 use Rattle.core_core.specs.declared.turn.Ahead.TheVariants as ahead
-use Rattle.core_core.specs.Answers.{IsReadyTurn}
-use Rattle.core_core.specs.Whole.{TellsAhead}
-use Rattle.base_jobs.specs.Meanings.{Meaning}
-use Rattle.actor_core.specs.Ends.{IsSameSeat, LeavesOwed}
-use Rattle.actor_core.specs.Owed.{owed_back}
-use Rattle.actor_core.specs.Recorded.{RecordedView, IsRecorded, desk_of, order_taken}
-use Rattle.actor_core.specs.OwedPolls.{seen_by}
-use Rattle.actor_core.specs.Turns.{IsBack, Picks}
-use Rattle.actor_core.proofs.OwedSteps.{picks_keep}
-use Rattle.actor_desk.specs.Ends.{KeepsOuts}
-use Rattle.link_ring.specs.declared.ring_out.Sending.{Sending}
-use Rattle.link_ring.specs.Ends.{EndsView, SameEnds}
-use Rattle.actor_seat.specs.declared.seat.Taken.{Taken}
-use Rattle.actor_seat.specs.Linked.{IsLinked, SeesNoLess, StaysLinked}
-use Rattle.actor_seat.specs.Seats.{PicksTaken, taken_of}
 use Rattle.actor_seat.proofs.AddedTurns.{adds_picked}
 use Rattle.actor_seat.proofs.HandedBack.{handed_back}
 use Rattle.actor_seat.proofs.Kept.{LeavesEnds, kept_linked}

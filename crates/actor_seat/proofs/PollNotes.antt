@@ -1,20 +1,8 @@
 -- What the notes of a poll tell: its pick, if it is the first of its turn, its beginning, what it posts, and its settling.
-use Rattle.std.proofs.Common.{◌≡◌, ℕ, ◌+◌, [], ◌∷◌, ◌++◌, refl, sym, ◌∙◌, ap}
-use Rattle.std.specs.Prelude.{Bool, true, false, Option, Some, None, unwrap_or}
-use Rattle.std.proofs.lemmas.List.{append_assoc}
-use Rattle.base_words.specs.declared.names.JobId.{JobId}
+use Rattle.actor_seat.proofs.Names.{ap, append_assoc, ArePosts, Begins, Bool, false, Grows, JobId, Journal, LinkedView, Meaning, None, opening_of, Option, poll_note, PollsFirst, PollsFurther, PollsOne, refl, settle_note, Settled, Some, sym}
+use Rattle.actor_seat.proofs.Names.{true, unwrap_or, with_notes, ℕ, [], ◌++◌, ◌+◌, ◌∙◌, ◌∷◌, ◌≡◌}
 use Rattle.base_words.specs.declared.note.Note.TheVariants as writes
-use Rattle.base_words.specs.Journal.{Journal}
-use Rattle.base_jobs.specs.Meanings.{Meaning}
-use Rattle.core_core.specs.declared.turn.Settled.{Settled}
 use Rattle.core_core.specs.declared.turn.Settled.TheVariants as came
-use Rattle.actor_core.specs.Polls.{poll_note, settle_note}
-use Rattle.actor_core.specs.Steps.{with_notes}
-use Rattle.actor_core.specs.Whole.{Begins}
-use Rattle.actor_desk.specs.Posts.{ArePosts}
-use Rattle.actor_seat.specs.Linked.{LinkedView, Grows}
-use Rattle.actor_seat.specs.Queues.{opening_of}
-use Rattle.actor_seat.specs.Steps.{PollsOne, PollsFirst, PollsFurther}
 use Rattle.actor_seat.proofs.Openings.{opening_posted}
 
 module _ {T : Type 0} where

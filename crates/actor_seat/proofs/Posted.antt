@@ -1,15 +1,7 @@
 -- A core and its ends after a poll that submitted, redeemed and detached on them.
-use Rattle.std.proofs.Common.{◌≡◌, ℕ, suc, ◌+◌, List, [], ◌∷◌, length, map, Some, refl, sym, ◌∙◌, ap, subst, arith}
-use Rattle.std.specs.Prelude.{slice_get}
-use Rattle.base_words.specs.declared.order.Order.{Order}
-use Rattle.base_words.specs.declared.order.Outcome.{Outcome}
-use Rattle.link_ring.specs.declared.ring_out.Sending.{Sending}
-use Rattle.actor_core.specs.Recorded.{RecordedView, desk_of}
-use Rattle.actor_core.specs.Ends.{IsSameSeat, KeepsIn}
-use Rattle.actor_desk.specs.Posts.{AreOutsOf, HasPosted}
-use Rattle.actor_core.specs.Whole.{post_of}
-use Rattle.link_ring.specs.Ends.{EndsView, SameEnds}
-use Rattle.actor_seat.specs.Linked.{AreBeside, SeesNoLess}
+use Rattle.actor_seat.proofs.Names.{ap, AreBeside, AreOutsOf, arith, desk_of, EndsView, HasPosted, IsSameSeat, KeepsIn, length, List, map, Order, Outcome, post_of, RecordedView, refl, SameEnds, SeesNoLess, Sending, slice_get, subst, suc}
+use Rattle.actor_seat.proofs.Names.{sym, ℕ, [], ◌+◌, ◌∙◌, ◌∷◌, ◌≡◌}
+use Rattle.std.proofs.Common.{Some}
 use Rattle.actor_seat.proofs.Seen.{posted_sees}
 
 module _ {J T : Type 0} where

@@ -1,13 +1,8 @@
 -- Bells in their places, and rings one after another.
-use Rattle.std.proofs.Common.{◌≡◌, ◌≢◌, ℕ, ◌+◌, ◌*◌, ◌<◌, ◌≤◌, List, [], ◌∷◌, ◌++◌, length, map, replicate, take, get_or, set, get_or-set_same, get_or-set_other, length-set, length-append, refl, sym, ◌∙◌, ap, subst, arith, ⊎_elim, drop}
-use Rattle.std.proofs.lemmas.Bool.{cases_eq}
-use Rattle.std.proofs.lemmas.List.{get_or_append_left, get_or_default, get_or-map, take_more, map-append, map-set, length-map, length-reverse, replicate-append-replicate, reverse-append}
-use Rattle.std.proofs.Math.Seq.{drop-append_seam, get_or-append_seam, map-set_same}
-use Rattle.std.specs.Prelude.{reverse}
-use Rattle.base_words.specs.declared.note.Note.{Note}
-use Rattle.base_words.specs.Journal.{Journal}
-use Rattle.actor_seat.specs.Bells.{BellView, no_bell, AreInPlace, AreApart, IsNamedFor, bells_view, once_more, rung_at, rung_at_some, told_by, rung_for, HasRung}
-use Rattle.actor_seat.specs.Linked.{Grows}
+use Rattle.actor_seat.proofs.Names.{ap, AreApart, AreInPlace, arith, bells_view, BellView, cases_eq, drop, drop-append_seam, get_or, get_or-append_seam, get_or-map, get_or-set_other, get_or-set_same, get_or_append_left, get_or_default}
+use Rattle.actor_seat.proofs.Names.{Grows, HasRung, IsNamedFor, Journal, length, length-map, length-reverse, length-set, List, map, map-append, map-set, map-set_same, no_bell, Note, once_more, refl, replicate, replicate-append-replicate}
+use Rattle.actor_seat.proofs.Names.{reverse, reverse-append, rung_at, rung_at_some, rung_for, set, subst, sym, take, take_more, told_by, ℕ, [], ⊎_elim, ◌*◌, ◌++◌, ◌+◌, ◌<◌, ◌∙◌, ◌∷◌, ◌≡◌, ◌≢◌, ◌≤◌}
+use Rattle.std.proofs.Common.{length-append}
 
 -- no bell is anywhere
 pub none_in_place : AreInPlace []

@@ -1,19 +1,6 @@
 -- No step leaves an end that has seen less than before.
-use Rattle.std.proofs.Common.{◌≡◌, ◌≢◌, ℕ, zero, suc, ◌+◌, ◌<◌, ◌≤◌, List, [], ◌∷◌, length, set, get_or-set_same, get_or-set_other, refl, sym, ◌∙◌, ap, subst, arith, ⊎_elim}
-use Rattle.std.specs.Prelude.{Bool, true, false, Option, Some, None, slice_get, slice_index_or}
-use Rattle.std.proofs.lemmas.Bool.{cases_eq}
-use Rattle.std.proofs.lemmas.List.{length-append}
-use Rattle.base_words.specs.declared.order.Outcome.{Outcome}
-use Rattle.base_words.specs.Assembly.{IsPrefix}
-use Rattle.link_ends.specs.declared.ends.Inward.{Inward}
-use Rattle.link_ring.specs.declared.ring_in.Receiving.{Receiving}
-use Rattle.link_ring.specs.declared.ring_out.Sending.{Sending}
-use Rattle.actor_core.specs.Recorded.{RecordedView}
-use Rattle.actor_core.specs.Ends.{Gives}
-use Rattle.actor_core.specs.Steps.{Delivers}
-use Rattle.actor_desk.specs.Posts.{SendsMore}
-use Rattle.link_ring.specs.Ends.{EndsView, in_at, no_in, out_at, no_out}
-use Rattle.actor_seat.specs.Linked.{SeesNoLess}
+use Rattle.actor_seat.proofs.Names.{ap, arith, Bool, cases_eq, Delivers, EndsView, false, get_or-set_other, get_or-set_same, Gives, in_at, Inward, IsPrefix, length, length-append, List, no_in, no_out, None, Option, out_at, Outcome}
+use Rattle.actor_seat.proofs.Names.{Receiving, RecordedView, refl, SeesNoLess, Sending, SendsMore, set, slice_get, slice_index_or, Some, subst, suc, sym, true, zero, ℕ, [], ⊎_elim, ◌+◌, ◌<◌, ◌∙◌, ◌∷◌, ◌≡◌, ◌≢◌, ◌≤◌}
 
 -- the beginning of a list is no longer than the list
 pub prefix_shorter : {A : Type 0} (front whole : List A) → IsPrefix front whole → length front ≤ length whole

@@ -1,20 +1,6 @@
 -- A step on the end of one sender leaves a core linked as before.
-use Rattle.std.proofs.Common.{◌≡◌, ◌≢◌, ℕ, ◌+◌, ◌<◌, ◌≤◌, length, get_or-set_same, get_or-set_other, length-set, sym, ◌∙◌, ap, subst, arith, ⊎_elim}
-use Rattle.std.specs.Prelude.{Option, slice_get}
-use Rattle.std.proofs.lemmas.Bool.{cases_eq}
-use Rattle.base_words.specs.declared.names.JobId.{JobId}
-use Rattle.base_words.specs.declared.order.Order.{Order}
-use Rattle.base_words.specs.declared.order.Outcome.{Outcome}
-use Rattle.base_words.specs.declared.note.OutcomeNote.{OutcomeNote}
-use Rattle.link_ring.specs.declared.ring_in.Receiving.{Receiving}
-use Rattle.actor_core.specs.Recorded.{RecordedView, desk_of}
-use Rattle.actor_core.specs.Ends.{IsInOf, IsInOwing, IsSameSeat, KeepsIn}
-use Rattle.actor_desk.specs.Ends.{KeepsOuts}
-use Rattle.link_ring.specs.Ends.{EndsView, in_at, no_in, SameEnds}
-use Rattle.link_ring.specs.Lending.{with_in}
-use Rattle.link_ring.proofs.Using.{in_used}
-use Rattle.actor_seat.specs.Linked.{AreBeside, AreOwing, Grows, SeesNoLess, SendsOn}
-use Rattle.actor_seat.specs.Queues.{opening_of}
+use Rattle.actor_seat.proofs.Names.{ap, AreBeside, AreOwing, arith, cases_eq, desk_of, EndsView, get_or-set_other, get_or-set_same, Grows, in_at, in_used, IsInOf, IsInOwing, IsSameSeat, JobId, KeepsIn, KeepsOuts, length, length-set, no_in}
+use Rattle.actor_seat.proofs.Names.{opening_of, Option, Order, Outcome, OutcomeNote, Receiving, RecordedView, SameEnds, SeesNoLess, SendsOn, slice_get, subst, sym, with_in, ℕ, ⊎_elim, ◌+◌, ◌<◌, ◌∙◌, ◌≡◌, ◌≢◌, ◌≤◌}
 use Rattle.actor_seat.proofs.Seen.{in_put_sees}
 
 module _ {J T : Type 0} where

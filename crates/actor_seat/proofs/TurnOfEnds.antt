@@ -1,31 +1,12 @@
 -- What a turn among any ends is, among the ends of one actor.
-use Rattle.std.proofs.Common.{◌≡◌, ℕ, ◌+◌, ◌<◌, Bool, true, false, List, [], ◌∷◌, length, refl, sym, ◌∙◌, ap, subst, arith}
-use Rattle.std.specs.Prelude.{Option}
-use Rattle.std.proofs.lemmas.List.{length-map}
-use Rattle.base_words.specs.declared.names.JobId.{JobId}
-use Rattle.base_words.specs.declared.order.Outcome.{Outcome}
-use Rattle.base_words.specs.Bursts.{has_bursts, polls_in_turn}
-use Rattle.base_jobs.specs.Meanings.{Meaning}
-use Rattle.base_jobs.specs.Steps.{OwesAt}
-use Rattle.actor_desk.specs.Calls.{Does}
-use Rattle.actor_desk.specs.Posts.{HasPosted}
-use Rattle.actor_core.specs.Recorded.{RecordedView}
-use Rattle.actor_core.specs.Turns.{EndsTurn, IsFurther, IsPick}
-use Rattle.actor_core.specs.Whole.{Begins, StaysPut, post_of}
+use Rattle.actor_seat.proofs.Names.{ap, arith, Begins, Does, ends_along, ends_reach, ends_same, EndsTurn, EndsView, Fits, GoesThrough, has_bursts, HasPosted, in_at, in_used, IsFurther, IsLinked, IsPick, JobId, length, length-map}
+use Rattle.actor_seat.proofs.Names.{LinkedView, List, MakesTurn, Meaning, Option, Outcome, OwesAt, polls_in_turn, PollsAsOwed, PollsOn, PollsOne, post_of, Receiving, RecordedView, refl, SameEnds, SeesNoLess, Sending, StaysLinked, StaysPut}
+use Rattle.actor_seat.proofs.Names.{subst, sym, turn_view, Turned, TurnView, ℕ, [], ◌+◌, ◌<◌, ◌∙◌, ◌∷◌, ◌≡◌}
+use Rattle.std.proofs.Common.{Bool, true, false}
 use Rattle.actor_core.specs.Beside as turns
 use Rattle.actor_core.specs.TurnPolls as polls
 use Rattle.actor_core.specs.WholeTurns as made
-use Rattle.actor_core.specs.declared.whole.Turned.{Turned}
 use Rattle.actor_core.specs.declared.whole.Turned.TheVariants as came
-use Rattle.link_ends.specs.Fits.{Fits}
-use Rattle.link_ring.specs.declared.ring_in.Receiving.{Receiving}
-use Rattle.link_ring.specs.declared.ring_out.Sending.{Sending}
-use Rattle.link_ring.specs.Ends.{EndsView, SameEnds, in_at}
-use Rattle.link_ring.specs.Reached.{ends_reach}
-use Rattle.link_ring.proofs.Using.{ends_along, ends_same, in_used}
-use Rattle.actor_seat.specs.Bursts.{GoesThrough, MakesTurn, PollsOn, TurnView, turn_view}
-use Rattle.actor_seat.specs.Linked.{IsLinked, LinkedView, PollsAsOwed, SeesNoLess, StaysLinked}
-use Rattle.actor_seat.specs.Steps.{PollsOne}
 use Rattle.actor_seat.proofs.AddedTurns.{adds_ended}
 use Rattle.actor_seat.proofs.Along.{sees_along, sees_same, stays_along, stays_same}
 use Rattle.actor_seat.proofs.Growing.{grows_returned}

@@ -1,24 +1,7 @@
 -- A refused call on a lent end leaves all as it was.
-use Rattle.std.proofs.Common.{◌≡◌, ◌+◌, ℕ, List, length, ◌∙◌, ap, ap₂, subst, arith}
-use Rattle.std.specs.Prelude.{Result, Ok, Err, OnErr}
-use Rattle.std.proofs.lemmas.List.{set-get_or}
-use Rattle.std.proofs.lemmas.Result.{on_err_weaker}
-use Rattle.base_words.specs.declared.names.JobId.{JobId}
-use Rattle.base_words.specs.declared.names.TicketError.{TicketError}
+use Rattle.actor_seat.proofs.Names.{ap, ap₂, arith, desk_of, DeskView, DetachesTicket, EndsView, Err, Fits, IsOutOf, JobId, length, LinkedView, List, Meaning, no_out, Ok, on_err_weaker, OnErr, Outcome, OutsideView, Outward, RecordedView}
+use Rattle.actor_seat.proofs.Names.{RedeemsTicket, Result, Sending, set-get_or, StaysBeside, subst, TicketError, with_out, ℕ, ◌+◌, ◌∙◌, ◌≡◌}
 use Rattle.base_words.specs.declared.names.TicketError.TheVariants.{Unknown, Gone, Pending}
-use Rattle.base_words.specs.declared.order.Outcome.{Outcome}
-use Rattle.base_jobs.specs.Meanings.{Meaning}
-use Rattle.link_ends.specs.declared.ends.Outward.{Outward}
-use Rattle.link_ends.specs.Fits.{Fits}
-use Rattle.link_ring.specs.declared.ring_out.Sending.{Sending}
-use Rattle.link_ring.specs.Ends.{EndsView, no_out}
-use Rattle.link_ring.specs.Lending.{with_out}
-use Rattle.actor_core.specs.Recorded.{RecordedView, desk_of}
-use Rattle.actor_desk.specs.Ends.{IsOutOf}
-use Rattle.actor_desk.specs.Submissions.{DeskView}
-use Rattle.actor_desk.specs.Tickets.{DetachesTicket, RedeemsTicket, StaysBeside}
-use Rattle.actor_seat.specs.Linked.{LinkedView}
-use Rattle.actor_seat.specs.OutsideSeats.{OutsideView}
 use Rattle.actor_seat.proofs.LentOut.{LendsOut, out_beside}
 use Rattle.actor_seat.proofs.OutsideSeats.{LendsAt, as_lent}
 

@@ -1,21 +1,7 @@
 -- If a core is drained among joined journals, all that was accepted for it has ended.
-use Rattle.std.proofs.Common.{◌≡◌, ℕ, ◌<◌, ◌≤◌, inl, inr, Bool, true, false, List, [], ◌∷◌, refl, sym, ◌∙◌, ap, subst, arith}
-use Rattle.std.specs.Prelude.{Option, Some, None, nat_le, slice_get, is_some}
-use Rattle.std.proofs.lemmas.Bool.{leb-true, leb-false, true≢false}
-use Rattle.std.proofs.lemmas.List.{length-map}
-use Rattle.std.proofs.lemmas.Option.{slice_get_past}
-use Rattle.base_words.specs.declared.names.JobId.{JobId}
-use Rattle.base_words.specs.declared.order.Order.{Order}
-use Rattle.base_words.specs.Assembly.{Assembly, journal_of, names_of, order_of, is_command, IsAcceptedJob, IsAcceptedCommand}
-use Rattle.base_words.specs.Clauses.{OutcomesRight, StandsInOrder}
-use Rattle.base_words.specs.Closing.{IsDrained}
-use Rattle.base_words.specs.Filters.{accepted_orders, delivered_names, name_ended}
-use Rattle.base_words.specs.Journal.{EachNote, is_told}
-use Rattle.base_words.specs.Joining.{AreJoined}
-use Rattle.base_words.specs.Lines.{line}
-use Rattle.base_words.specs.Sound.{AllEnded}
-use Rattle.base_words.specs.Terms.{terms_of}
-use Rattle.base_words.specs.Work.{queue_of}
+use Rattle.base_words.proofs.Words.{accepted_orders, AllEnded, ap, AreJoined, arith, Assembly, Bool, delivered_names, EachNote, false, inl, inr, is_command, is_some, is_told, IsAcceptedCommand, IsAcceptedJob, IsDrained, JobId, journal_of}
+use Rattle.base_words.proofs.Words.{leb-false, leb-true, length-map, line, List, name_ended, names_of, nat_le, None, Option, Order, order_of, OutcomesRight, queue_of, refl, slice_get, slice_get_past, Some, StandsInOrder, subst, sym}
+use Rattle.base_words.proofs.Words.{terms_of, true, true≢false, ℕ, [], ◌<◌, ◌∙◌, ◌∷◌, ◌≡◌, ◌≤◌}
 use Rattle.base_words.proofs.Ended.{IsMet, delivered_met, ended_job, answered_command, not_both, entered_somewhere}
 use Rattle.base_words.proofs.NameLemmas.{among}
 use Rattle.base_words.proofs.Prefixes.{IsPrefix-same}

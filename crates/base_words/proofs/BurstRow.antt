@@ -1,24 +1,11 @@
 -- Cores whose turns have several polls are lawful and sound: two queues whose turns have two polls each, and a job that is done in one turn of three polls.
-use Rattle.std.proofs.Common.{◌≡◌, ◌⊎◌, inl, inr, ℕ, zero, suc, ◌<◌, ◌≤◌, Bool, true, false, [], ◌∷◌, refl, sym, ◌∙◌, arith, eqb-true}
-use Rattle.std.proofs.lemmas.Bool.{true≢false}
-use Rattle.std.specs.Prelude.{◌==◌, Some, None, length}
-use Rattle.base_words.specs.declared.names.JobId.{JobId}
+use Rattle.base_words.proofs.Words.{accepted_orders, arith, Assembly, Bool, collected_outcomes, delivered_names, DeliversAsSent, EachNote, false, final_count, floor, given_outcomes, has_bursts, has_work, inl, inr, IsLawful, IsPrefix}
+use Rattle.base_words.proofs.Words.{IsRightPick, IsSound, JobId, jobs_out, Journal, journal_of, KeyAtMost, names_of, None, queue_in_turn, refl, Some, suc, sym, Terms, terms_of, true, true≢false, virtual_runtime, zero, ℕ, [], ◌<◌, ◌==◌, ◌∙◌}
+use Rattle.base_words.proofs.Words.{◌∷◌, ◌≡◌, ◌≤◌, ◌⊎◌}
+use Rattle.std.proofs.Common.{eqb-true}
+use Rattle.std.specs.Prelude.{length}
 use Rattle.base_words.specs.declared.note.Note.TheVariants.{Sent, Created, Took, Pick, Start, Yield, Resume, Done, Turned}
 use Rattle.base_words.specs.declared.order.Order.TheVariants.{Job}
-use Rattle.base_words.specs.Assembly.{Assembly, journal_of, IsPrefix, names_of}
-use Rattle.base_words.specs.Bursts.{has_bursts, queue_in_turn}
-use Rattle.base_words.specs.Closing.{final_count}
-use Rattle.base_words.specs.Filters.{accepted_orders, delivered_names, collected_outcomes, given_outcomes}
-use Rattle.base_words.specs.Journal.{Journal, EachNote}
-use Rattle.base_words.specs.Joining.{DeliversAsSent}
-use Rattle.base_words.specs.Keys.{KeyAtMost}
-use Rattle.base_words.specs.Lawful.{IsLawful}
-use Rattle.base_words.specs.Lines.{jobs_out}
-use Rattle.base_words.specs.Picks.{IsRightPick}
-use Rattle.base_words.specs.Runtimes.{virtual_runtime, floor}
-use Rattle.base_words.specs.Sound.{IsSound}
-use Rattle.base_words.specs.Terms.{Terms, terms_of}
-use Rattle.base_words.specs.Work.{has_work}
 use Rattle.base_words.proofs.Joining.{joining_is_sound}
 use Rattle.base_words.proofs.OpenTurns.{none_either}
 use Rattle.base_words.proofs.Both.{◌&◌}

@@ -1,12 +1,5 @@
 -- Each bad turn of several polls breaks the fifth clause, or the law of its note.
-use Rattle.std.proofs.Common.{◌≡◌, ℕ, inl, inr, ◌<◌, refl, sym, ◌∙◌, arith}
-use Rattle.std.specs.Prelude.{Some, None}
-use Rattle.std.proofs.lemmas.Option.{same_Some}
-use Rattle.base_words.specs.declared.names.JobId.{JobId}
-use Rattle.base_words.specs.BadBursts.{BurstsAreUnsound, BurstsAreRefused}
-use Rattle.base_words.specs.Bursts.{queue_just_picked}
-use Rattle.base_words.specs.Journal.{Journal}
-use Rattle.base_words.specs.Lawful.{IsTurnOf, GoesOn}
+use Rattle.base_words.proofs.Words.{arith, BurstsAreRefused, BurstsAreUnsound, GoesOn, inl, inr, IsTurnOf, JobId, Journal, None, queue_just_picked, refl, same_Some, Some, sym, ℕ, ◌<◌, ◌∙◌, ◌≡◌}
 
 -- a turn that goes on is that of the queue whose turn is open, and has a poll left
 going_on : (name : JobId) (queue : ℕ) (before : Journal ℕ) → IsTurnOf 2 name queue before → queue_just_picked before ≡ None → GoesOn 2 queue before

@@ -1,6 +1,5 @@
 -- Each fault of closing breaks the third clause.
-use Rattle.std.proofs.Common.{arith}
-use Rattle.base_words.specs.BadCloses.{ClosesAreRefused}
+use Rattle.base_words.proofs.Words.{arith, ClosesAreRefused}
 
 pub closes_refused : ClosesAreRefused
 closes_refused = record {

@@ -1,24 +1,12 @@
 -- Closes: in a lawful journal nothing enters after a close, and each gate is shut once, at the count that its sender tells.
-use Rattle.std.proofs.Common.{◌≡◌, ℕ, ◌+◌, ◌≤◌, Bool, true, false, [], ◌∷◌, refl, ◌∙◌, length, cond}
-use Rattle.std.specs.Prelude.{Option, Some, None, nat_le, ◌==◌, IsTrue}
-use Rattle.std.proofs.lemmas.Bool.{eq-eqb, eqb-true}
-use Rattle.base_words.specs.declared.note.Note.{Note}
+use Rattle.base_words.proofs.Words.{accepted_orders, Assembly, Bool, closes, cond, core_mode, created_count, EachNote, effect_awaited, eq-eqb, eqb-true, false, final_count, has_effect, is_inside, IsAnswer, IsCreationAnswer, IsEffectDue}
+use Rattle.base_words.proofs.Words.{IsOpening, IsTrue, job_at, Journal, journal_of, latest_told, length, MayFollow, MayStand, Mode, nat_le, None, Note, Option, or_else, Order, queue_mode, Reason, reason_if_closed, reason_if_returning, refl}
+use Rattle.base_words.proofs.Words.{refusal, RespectsCloses, return_told, Some, Terms, true, ℕ, [], ◌+◌, ◌==◌, ◌∙◌, ◌∷◌, ◌≡◌, ◌≤◌}
 use Rattle.base_words.specs.declared.note.Note.TheVariants.{Answered, CoreClosed, Shut, Took, Created}
 use Rattle.base_words.specs.declared.order.Answer.TheVariants as answers
-use Rattle.base_words.specs.declared.order.Mode.{Mode}
 use Rattle.base_words.specs.declared.order.Mode.TheVariants.{Finish, Return}
-use Rattle.base_words.specs.declared.order.Order.{Order}
 use Rattle.base_words.specs.declared.order.Order.TheVariants.{Job, Create, SetShares, Close, CloseCore, Wake}
-use Rattle.base_words.specs.declared.order.Reason.{Reason}
 use Rattle.base_words.specs.declared.order.Reason.TheVariants as why
-use Rattle.base_words.specs.Assembly.{Assembly, journal_of}
-use Rattle.base_words.specs.Clauses.{RespectsCloses, return_told}
-use Rattle.base_words.specs.Closing.{closes, queue_mode, core_mode, final_count}
-use Rattle.base_words.specs.Commands.{is_inside, job_at, refusal, created_count, reason_if_closed, reason_if_returning, IsAnswer, IsCreationAnswer, effect_awaited, has_effect, IsEffectDue, IsOpening}
-use Rattle.base_words.specs.Filters.{accepted_orders}
-use Rattle.base_words.specs.Journal.{Journal, EachNote, latest_told, or_else}
-use Rattle.base_words.specs.Lawful.{MayFollow, MayStand}
-use Rattle.base_words.specs.Terms.{Terms}
 
 -- the mode of a core that ever closed in mode `Return`, by its mode now
 abbrev pub only_return : Option Mode → Option Mode

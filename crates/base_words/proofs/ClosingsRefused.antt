@@ -1,9 +1,6 @@
 -- Each bad closing breaks the law of its note.
-use Rattle.std.proofs.Common.{◌<◌, ◌≤◌, arith}
-use Rattle.std.specs.Prelude.{◌^◌}
-use Rattle.base_words.specs.BadClosings.{creation_answered, ClosingsAreRefused}
+use Rattle.base_words.proofs.Words.{arith, ClosingsAreRefused, core_terms, creation_answered, ◌<◌, ◌^◌, ◌≤◌}
 use Rattle.base_words.proofs.ClosesRight.{created_open}
-use Rattle.base_words.specs.BadJournals.{core_terms}
 
 pub closings_refused : ClosingsAreRefused
 closings_refused = record {

@@ -1,25 +1,11 @@
 -- What an actor collects and redeems is under names that it sent.
-use Rattle.std.proofs.Common.{◌≡◌, ◌≤◌, inl, inr, Bool, true, false, [], ◌∷◌, refl, sym, ◌∙◌, subst, arith, cond}
-use Rattle.std.specs.Prelude.{◌==◌, Some, None}
-use Rattle.std.proofs.lemmas.Bool.{or_parts}
-use Rattle.base_words.specs.declared.names.JobId.{JobId}
-use Rattle.base_words.specs.declared.note.Note.{Note}
+use Rattle.base_words.proofs.Words.{accepted_orders, Answer, AnswersClosing, AnswersCoreClosing, AnswersCreation, AnswersShares, AnswersWaking, arith, Bool, collected_outcomes, cond, EachNote, false, first_under, FitsOrder, inl, inr}
+use Rattle.base_words.proofs.Words.{is_name, is_told, IsNextSent, IsOwn, IsSpelledAnswer, IsSpelledOutcome, JobId, Journal, MayFollow, MayStand, name_collected, None, Note, or_parts, Order, order_sent, outcome_collected, OutcomeNote, refl}
+use Rattle.base_words.proofs.Words.{Some, subst, sym, Terms, true, with_last, [], ◌==◌, ◌∙◌, ◌∷◌, ◌≡◌, ◌≤◌}
 use Rattle.base_words.specs.declared.note.Note.TheVariants.{Sent, Collected}
-use Rattle.base_words.specs.declared.note.OutcomeNote.{OutcomeNote}
 use Rattle.base_words.specs.declared.note.OutcomeNote.TheVariants as outcomes
-use Rattle.base_words.specs.declared.order.Answer.{Answer}
 use Rattle.base_words.specs.declared.order.Answer.TheVariants as answers
-use Rattle.base_words.specs.declared.order.Order.{Order}
 use Rattle.base_words.specs.declared.order.Order.TheVariants.{Job, Create, SetShares, Close, CloseCore, Wake}
-use Rattle.base_words.specs.Assembly.{first_under}
-use Rattle.base_words.specs.Filters.{accepted_orders, collected_outcomes, outcome_collected, order_sent}
-use Rattle.base_words.specs.Journal.{Journal, EachNote, with_last, is_told}
-use Rattle.base_words.specs.Lawful.{MayFollow, MayStand, IsNextSent}
-use Rattle.base_words.specs.Names.{is_name}
-use Rattle.base_words.specs.Outcomes.{FitsOrder, AnswersCreation, AnswersShares, AnswersClosing, AnswersCoreClosing, AnswersWaking, IsSpelledAnswer, IsSpelledOutcome}
-use Rattle.base_words.specs.Outstanding.{name_collected}
-use Rattle.base_words.specs.Spelled.{IsOwn}
-use Rattle.base_words.specs.Terms.{Terms}
 use Rattle.base_words.proofs.NameLemmas.{one_name}
 use Rattle.base_words.proofs.Under.{first_under-last, first_under-came}
 

@@ -1,14 +1,8 @@
 -- Each bad collection, redeem and detach breaks the law of its note.
-use Rattle.std.proofs.Common.{◌≡◌, ℕ, sym, subst}
-use Rattle.std.specs.Prelude.{Some}
-use Rattle.std.proofs.lemmas.Option.{same_Some}
-use Rattle.base_words.specs.declared.note.OutcomeNote.{OutcomeNote}
+use Rattle.base_words.proofs.Words.{CollectsAreRefused, FitsOrder, Order, OutcomeNote, same_Some, Some, subst, sym, ℕ, ◌≡◌}
 use Rattle.base_words.specs.declared.note.OutcomeNote.TheVariants.{Finished, Answered}
 use Rattle.base_words.specs.declared.order.Answer.TheVariants.{NoMemory, SharesSet}
-use Rattle.base_words.specs.declared.order.Order.{Order}
 use Rattle.base_words.specs.declared.order.Order.TheVariants.{Job, Create}
-use Rattle.base_words.specs.BadCollects.{CollectsAreRefused}
-use Rattle.base_words.specs.Outcomes.{FitsOrder}
 
 -- what fits the order that was accepted fits the one that was sent
 fits_sent : (sent order : Order (Unit {0})) (outcome : OutcomeNote ℕ) → Some sent ≡ Some order → FitsOrder order outcome → FitsOrder sent outcome

@@ -1,23 +1,9 @@
 -- A core whose queue and which itself are closed by commands hands back what is inside, and is drained: its journals are lawful and joined.
-use Rattle.std.proofs.Common.{◌≡◌, ℕ, inl, zero, suc, ◌<◌, ◌≤◌, Bool, true, false, List, [], length, refl, sym, ◌∙◌, arith, cond}
-use Rattle.std.specs.Prelude.{◌==◌, ◌&&◌, Some}
-use Rattle.std.proofs.lemmas.Bool.{true≢false}
-use Rattle.std.proofs.lemmas.Option.{same_Some}
-use Rattle.base_words.specs.declared.names.JobId.{JobId}
+use Rattle.base_words.proofs.Words.{accepted_orders, answered_all, AreJoined, arith, Bool, collected_outcomes, commanded, commanded_core, cond, core_terms, delivered_names, DeliversAsSent, EachNote, emptied, false, final_count}
+use Rattle.base_words.proofs.Words.{given_outcomes, has_work, inl, IsLawful, IsPrefix, IsRightPick, IsServed, JobId, journal_of, length, List, names_of, outside_terms, parked, refl, same_Some, Some, suc, sym, terms_of, true, true≢false}
+use Rattle.base_words.proofs.Words.{zero, ℕ, [], ◌&&◌, ◌<◌, ◌==◌, ◌∙◌, ◌≡◌, ◌≤◌}
 use Rattle.base_words.specs.declared.order.Mode.TheVariants.{Finish, Return}
 use Rattle.base_words.specs.declared.order.Order.TheVariants.{Job, Close, CloseCore}
-use Rattle.base_words.specs.Assembly.{journal_of, IsPrefix, names_of}
-use Rattle.base_words.specs.BadJournals.{core_terms, outside_terms}
-use Rattle.base_words.specs.Closing.{final_count}
-use Rattle.base_words.specs.Filters.{accepted_orders, delivered_names, collected_outcomes, given_outcomes}
-use Rattle.base_words.specs.GoodJournals.{commanded, emptied, answered_all, commanded_core, IsServed}
-use Rattle.base_words.specs.Joining.{AreJoined, DeliversAsSent}
-use Rattle.base_words.specs.Parks.{parked}
-use Rattle.base_words.specs.Journal.{EachNote}
-use Rattle.base_words.specs.Lawful.{IsLawful}
-use Rattle.base_words.specs.Picks.{IsRightPick}
-use Rattle.base_words.specs.Terms.{terms_of}
-use Rattle.base_words.specs.Work.{has_work}
 use Rattle.base_words.proofs.Joining.{joining_is_sound}
 use Rattle.base_words.proofs.FinishingCore.{only_queue}
 use Rattle.base_words.proofs.Both.{◌&◌}

@@ -1,18 +1,7 @@
 -- The jobs that entered a queue have left it, wait in its line, are parked, or are out. So a queue has work where its line is not empty or its job is out.
-use Rattle.std.proofs.Common.{◌≡◌, ℕ, ◌+◌, Bool, true, false, List, [], ◌∷◌, length, refl, ap, arith}
-use Rattle.std.specs.Prelude.{◌==◌, Some, None}
-use Rattle.std.proofs.lemmas.Bool.{eqb-true, eqb-false}
-use Rattle.base_words.specs.declared.names.JobId.{JobId}
-use Rattle.base_words.specs.declared.note.Note.{Note}
+use Rattle.base_words.proofs.Words.{ap, arith, Bool, EachNote, eqb-false, eqb-true, false, is_number, IsTurnOf, JobId, jobs_out, JobsAddUp, Journal, length, line, List, MayFollow, MayStand, names_but, None, Note, number_if, parked}
+use Rattle.base_words.proofs.Words.{queue_of, queue_of_first, queue_out, refl, Some, still_parked, Terms, true, unparked, with_all, ℕ, [], ◌+◌, ◌==◌, ◌∷◌, ◌≡◌}
 use Rattle.base_words.specs.declared.note.Note.TheVariants.{Took, QueueClosed, CoreClosed, Woken, Start, Resume, Yield, Park, Stayed, Done, Returned}
-use Rattle.base_words.specs.Journal.{Journal, EachNote, with_all}
-use Rattle.base_words.specs.Lawful.{MayFollow, MayStand, IsTurnOf}
-use Rattle.base_words.specs.Laws.{JobsAddUp}
-use Rattle.base_words.specs.Lines.{line, jobs_out, names_but, queue_of_first, queue_out}
-use Rattle.base_words.specs.Names.{is_number}
-use Rattle.base_words.specs.Parks.{parked, still_parked, unparked}
-use Rattle.base_words.specs.Work.{queue_of, number_if}
-use Rattle.base_words.specs.Terms.{Terms}
 use Rattle.base_words.proofs.JobsOut.{nobody_at_turn, jobs_out-start, jobs_out-resume, names_but-alone}
 use Rattle.base_words.proofs.Known.{Known, known_of, parked-kept, queue_stays, first_in_line}
 use Rattle.base_words.proofs.LineSteps.{names_but-turn, names_but-turn_elsewhere, line-done}

@@ -1,18 +1,8 @@
 -- What was delivered entered, went back or was answered; and what entered waits in its line, is parked, is out, or has ended.
-use Rattle.std.proofs.Common.{◌≡◌, ℕ, ◌⊎◌, inl, inr, Bool, true, false, List, [], ◌∷◌, refl, sym, ◌∙◌, ap, subst, cond}
-use Rattle.std.specs.Prelude.{◌==◌, Option, Some, None, is_some}
-use Rattle.std.proofs.lemmas.Bool.{or_cases, or_left, or_right, eq-eqb, true≢false}
-use Rattle.base_words.specs.declared.names.JobId.{JobId}
-use Rattle.base_words.specs.declared.note.Note.{Note}
+use Rattle.base_words.proofs.Words.{ap, Assembly, Bool, cond, delivered_names, EachNote, eq-eqb, false, inl, inr, is_command, is_name, is_some, is_told, IsAcceptedCommand, IsAcceptedJob, JobId, jobs_out, Journal, line, List, name_answered}
+use Rattle.base_words.proofs.Words.{name_delivered, name_ended, name_joining, name_leaving, name_parked, name_parking, name_polled, name_settled, names_but, names_but_for, None, Note, Option, or_cases, or_else, or_left, or_right}
+use Rattle.base_words.proofs.Words.{OutcomesRight, parked, queue_entered, queue_of, refl, same_name, Some, still_parked, subst, sym, true, true≢false, unparked, ℕ, [], ◌==◌, ◌∙◌, ◌∷◌, ◌≡◌, ◌⊎◌}
 use Rattle.base_words.specs.declared.note.Note.TheVariants.{Took, Back, Answered, Start, Resume, Yield, Park, Stayed, Done, Returned}
-use Rattle.base_words.specs.Assembly.{Assembly, is_command, IsAcceptedJob, IsAcceptedCommand}
-use Rattle.base_words.specs.Clauses.{OutcomesRight, name_answered}
-use Rattle.base_words.specs.Filters.{delivered_names, name_delivered, name_ended}
-use Rattle.base_words.specs.Journal.{Journal, EachNote, is_told, or_else}
-use Rattle.base_words.specs.Lines.{line, jobs_out, name_joining, name_leaving, name_polled, name_settled, names_but, names_but_for}
-use Rattle.base_words.specs.Names.{same_name, is_name}
-use Rattle.base_words.specs.Parks.{parked, still_parked, unparked, name_parked, name_parking}
-use Rattle.base_words.specs.Work.{queue_of, queue_entered}
 use Rattle.base_words.proofs.NameLemmas.{among, one_name, same_as_itself, among-with_last, among-stays, among-comes, among-kept, among-all_stays, among-all_come}
 use Rattle.base_words.proofs.Parks.{still_or_unparked}
 

@@ -1,19 +1,7 @@
 -- In a sound assembly a drained core has ended each accepted job once, and answered each accepted command once.
-use Rattle.std.proofs.Common.{◌≡◌, ℕ, ◌+◌, ◌<◌, Bool, true, false, [], ◌∷◌, refl, sym, ap, subst, arith}
-use Rattle.std.specs.Prelude.{◌||◌, Option}
-use Rattle.std.proofs.lemmas.Bool.{or_parts, true≢false}
-use Rattle.base_words.specs.declared.names.JobId.{JobId}
-use Rattle.base_words.specs.declared.note.Note.{Note}
+use Rattle.base_words.proofs.Words.{ap, arith, Assembly, Bool, EachEndedOnce, EachNote, false, is_name, is_told, IsDrained, IsSound, JobId, Journal, journal_of, name_answered, name_ended, Note, number_if, Option, or_parts, OutcomesRight}
+use Rattle.base_words.proofs.Words.{refl, subst, sym, times_told, true, true≢false, ℕ, [], ◌+◌, ◌<◌, ◌||◌, ◌∷◌, ◌≡◌}
 use Rattle.base_words.specs.declared.note.Note.TheVariants.{Back, Answered, Done, Returned}
-use Rattle.base_words.specs.Assembly.{Assembly, journal_of}
-use Rattle.base_words.specs.Clauses.{OutcomesRight, name_answered}
-use Rattle.base_words.specs.Closing.{IsDrained}
-use Rattle.base_words.specs.Drained.{times_told, EachEndedOnce}
-use Rattle.base_words.specs.Filters.{name_ended}
-use Rattle.base_words.specs.Journal.{Journal, EachNote, is_told}
-use Rattle.base_words.specs.Names.{is_name}
-use Rattle.base_words.specs.Sound.{IsSound}
-use Rattle.base_words.specs.Work.{number_if}
 use Rattle.base_words.proofs.NameLemmas.{one_name}
 
 module _ {T : Type 0} (says : Note T → Option JobId) (name : JobId) where

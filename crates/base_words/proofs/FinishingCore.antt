@@ -1,23 +1,9 @@
 -- A core that closes in mode `Finish` runs its job on, and is drained: its journals are lawful and joined.
-use Rattle.std.proofs.Common.{◌≡◌, ℕ, inl, zero, suc, ◌<◌, ◌≤◌, inr, Bool, true, false, [], length, refl, sym, ◌∙◌, arith, eqb-true}
-use Rattle.std.specs.Prelude.{◌==◌, Some}
-use Rattle.std.proofs.lemmas.Bool.{true≢false}
-use Rattle.std.proofs.lemmas.Option.{same_Some}
+use Rattle.base_words.proofs.Words.{accepted_orders, AreJoined, arith, Bool, closing, collected_outcomes, core_terms, delivered_names, DeliversAsSent, drained_core, EachNote, ended, false, final_count, given_outcomes, going_on, has_work}
+use Rattle.base_words.proofs.Words.{inl, inr, IsLawful, IsPrefix, IsRightPick, IsServed, jobs_out, Journal, journal_of, KeyAtMost, length, names_of, outside_terms, refl, same_Some, served, Some, suc, sym, terms_of, true, true≢false}
+use Rattle.base_words.proofs.Words.{virtual_runtime, zero, ℕ, [], ◌<◌, ◌==◌, ◌∙◌, ◌≡◌, ◌≤◌}
+use Rattle.std.proofs.Common.{eqb-true}
 use Rattle.base_words.specs.declared.order.Order.TheVariants.{Job}
-use Rattle.base_words.specs.Assembly.{journal_of, IsPrefix, names_of}
-use Rattle.base_words.specs.BadJournals.{core_terms, outside_terms}
-use Rattle.base_words.specs.Closing.{final_count}
-use Rattle.base_words.specs.Filters.{accepted_orders, delivered_names, collected_outcomes, given_outcomes}
-use Rattle.base_words.specs.GoodJournals.{closing, going_on, ended, served, drained_core, IsServed}
-use Rattle.base_words.specs.Joining.{AreJoined, DeliversAsSent}
-use Rattle.base_words.specs.Journal.{Journal, EachNote}
-use Rattle.base_words.specs.Keys.{KeyAtMost}
-use Rattle.base_words.specs.Lawful.{IsLawful}
-use Rattle.base_words.specs.Lines.{jobs_out}
-use Rattle.base_words.specs.Picks.{IsRightPick}
-use Rattle.base_words.specs.Runtimes.{virtual_runtime}
-use Rattle.base_words.specs.Terms.{terms_of}
-use Rattle.base_words.specs.Work.{has_work}
 use Rattle.base_words.proofs.Joining.{joining_is_sound}
 use Rattle.base_words.proofs.Both.{◌&◌}
 

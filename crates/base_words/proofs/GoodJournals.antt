@@ -1,5 +1,5 @@
 -- All three cores are drained, joined and sound.
-use Rattle.base_words.specs.GoodJournals.{DrainedIsSound}
+use Rattle.base_words.proofs.Words.{DrainedIsSound}
 use Rattle.base_words.proofs.CommandedCore.{commanded_served}
 use Rattle.base_words.proofs.FinishingCore.{finishing_served}
 use Rattle.base_words.proofs.ReturningCore.{returning_served}

@@ -1,22 +1,10 @@
 -- Each note of the three journals may stand where it stands, their links agree, and so they are sound.
-use Rattle.std.proofs.Common.{◌≡◌, ℕ, zero, suc, ◌<◌, ◌≤◌, inl, inr, Bool, true, false, [], ◌∷◌, length, refl, sym, ◌∙◌, arith, eqb-true}
-use Rattle.std.specs.Prelude.{◌==◌, None, Some}
-use Rattle.std.proofs.lemmas.Bool.{true≢false}
+use Rattle.base_words.proofs.Words.{accepted_orders, alone, AreJoined, arith, Bool, closed_over, collected_outcomes, delivered_names, DeliversAsSent, EachNote, false, final_count, first_parked, first_woken, given_outcomes, handed_back}
+use Rattle.base_words.proofs.Words.{has_work, inl, inr, IsLawful, IsPrefix, IsRightPick, jobs_out, Journal, journal_of, KeyAtMost, length, names_of, None, own, ParkingIsSound, refl, Some, stayed, suc, sym, taken_beside, terms_of, true}
+use Rattle.base_words.proofs.Words.{true≢false, two_taken, virtual_runtime, wake_kept, woken_early, woken_later, zero, ℕ, [], ◌<◌, ◌==◌, ◌∙◌, ◌∷◌, ◌≡◌, ◌≤◌}
+use Rattle.std.proofs.Common.{eqb-true}
 use Rattle.base_words.specs.declared.order.Mode.TheVariants.{Return}
 use Rattle.base_words.specs.declared.order.Order.TheVariants.{Close, Wake}
-use Rattle.base_words.specs.Assembly.{journal_of, IsPrefix, names_of}
-use Rattle.base_words.specs.Closing.{final_count}
-use Rattle.base_words.specs.Filters.{accepted_orders, delivered_names, collected_outcomes, given_outcomes}
-use Rattle.base_words.specs.GoodParks.{own, alone, two_taken, first_parked, first_woken, woken_later, wake_kept, stayed, woken_early, taken_beside, closed_over, handed_back, ParkingIsSound}
-use Rattle.base_words.specs.Joining.{AreJoined, DeliversAsSent}
-use Rattle.base_words.specs.Journal.{Journal, EachNote}
-use Rattle.base_words.specs.Keys.{KeyAtMost}
-use Rattle.base_words.specs.Lawful.{IsLawful}
-use Rattle.base_words.specs.Lines.{jobs_out}
-use Rattle.base_words.specs.Picks.{IsRightPick}
-use Rattle.base_words.specs.Runtimes.{virtual_runtime}
-use Rattle.base_words.specs.Terms.{terms_of}
-use Rattle.base_words.specs.Work.{has_work}
 use Rattle.base_words.proofs.FinishingCore.{only_queue}
 use Rattle.base_words.proofs.Joining.{joining_is_sound}
 use Rattle.base_words.proofs.Both.{◌&◌}

@@ -1,21 +1,11 @@
 -- After a close in mode `Return` a queue, and a core, is picked at most as often as jobs were inside, and is empty after that many.
-use Rattle.std.proofs.Common.{◌≡◌, ℕ, zero, suc, ◌+◌, ◌-◌, ◌<◌, ◌≤◌, inl, inr, Bool, true, false, [], ◌∷◌, ◌++◌, refl, sym, ◌∙◌, ap, subst, arith}
-use Rattle.std.specs.Prelude.{◌==◌, Option, Some, None, is_some, length}
-use Rattle.base_words.specs.Parks.{parked}
-use Rattle.std.proofs.lemmas.Bool.{eqb-true, eqb-false, ltb-true, le-ltb, cases_lt, true≢false, false_from_ne_true}
-use Rattle.base_words.specs.declared.names.JobId.{JobId}
-use Rattle.base_words.specs.declared.note.Note.{Note}
+use Rattle.base_words.proofs.Words.{ap, arith, Bool, cases_lt, ClosingHandsBack, core_mode, CoreEmpties, created_count, EachNote, entered_count, eqb-false, eqb-true, false, false_from_ne_true, has_work, inl, inr, is_number, is_some}
+use Rattle.base_words.proofs.Words.{IsTurnOf, JobId, jobs_below, jobs_inside, Journal, le-ltb, left_count, ltb-true, MayFollow, MayStand, None, Note, number_if, Option, parked, pick_count, picks_of, queue_joined, queue_picked, QueueEmpties}
+use Rattle.base_words.proofs.Words.{QueueHandsBack, refl, return_reason, Some, subst, suc, sym, Terms, true, true≢false, turns, zero, ℕ, [], ◌++◌, ◌+◌, ◌-◌, ◌<◌, ◌==◌, ◌∙◌, ◌∷◌, ◌≡◌, ◌≤◌}
+use Rattle.std.specs.Prelude.{length}
 use Rattle.base_words.specs.declared.note.Note.TheVariants.{Pick, Start, Resume, Returned}
 use Rattle.base_words.specs.declared.order.Mode.TheVariants.{Return}
-use Rattle.base_words.specs.Closing.{core_mode}
-use Rattle.base_words.specs.Commands.{created_count, return_reason}
-use Rattle.base_words.specs.HandBacks.{jobs_inside, jobs_below, queue_picked, picks_of, QueueHandsBack, QueueEmpties, CoreEmpties, ClosingHandsBack}
-use Rattle.base_words.specs.Journal.{Journal, EachNote}
-use Rattle.base_words.specs.Lawful.{MayFollow, MayStand, IsTurnOf}
-use Rattle.base_words.specs.Names.{is_number}
-use Rattle.base_words.specs.Picks.{queue_just_picked, turns, pick_count}
-use Rattle.base_words.specs.Terms.{Terms}
-use Rattle.base_words.specs.Work.{has_work, entered_count, left_count, queue_joined, number_if}
+use Rattle.base_words.specs.Picks.{queue_just_picked}
 use Rattle.base_words.proofs.Known.{known_of, first_in_line}
 use Rattle.base_words.proofs.OpenTurns.{turn_of_pick}
 use Rattle.base_words.proofs.Returning.{IsReturning, has_reason, core_stays_returning, returning-stays, joins_nobody, hands_back, nobody_parked-returning, entered_there, created_count-returning}

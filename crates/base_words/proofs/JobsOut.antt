@@ -1,16 +1,7 @@
 -- At most one job of a core is out: from the turn that polls it until that poll is settled.
-use Rattle.std.proofs.Common.{◌≡◌, ◌⊎◌, inl, inr, ℕ, true, List, [], ◌∷◌, refl, subst}
-use Rattle.std.specs.Prelude.{Some}
-use Rattle.std.proofs.lemmas.Option.{same_Some}
-use Rattle.base_words.specs.declared.names.JobId.{JobId}
-use Rattle.base_words.specs.declared.note.Note.{Note}
+use Rattle.base_words.proofs.Words.{EachNote, inl, inr, IsTurnOf, JobId, jobs_out, Journal, List, MayFollow, MayStand, names_but, Note, poll_settled, refl, same_Some, Some, subst, Terms, true, ℕ, [], ◌∷◌, ◌≡◌, ◌⊎◌}
 use Rattle.base_words.specs.declared.note.Note.TheVariants.{Pick, Start, Resume, Yield, Park, Stayed, Done}
 use Rattle.base_words.specs.Clauses.{queue_just_picked}
-use Rattle.base_words.specs.Journal.{Journal, EachNote}
-use Rattle.base_words.specs.Lawful.{MayFollow, MayStand, IsTurnOf}
-use Rattle.base_words.specs.Lines.{jobs_out, names_but}
-use Rattle.base_words.specs.Polls.{poll_settled}
-use Rattle.base_words.specs.Terms.{Terms}
 use Rattle.base_words.proofs.NameLemmas.{among, same_as_itself}
 
 -- no name, or one

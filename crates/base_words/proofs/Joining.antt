@@ -1,15 +1,7 @@
 -- The law of joining: lawful journals whose links agree are sound together.
-use Rattle.std.proofs.Common.{◌≡◌, ℕ, ◌≤◌, Some, sym, subst, arith}
-use Rattle.base_words.specs.declared.names.JobId.{JobId}
-use Rattle.base_words.specs.declared.note.OutcomeNote.{OutcomeNote}
-use Rattle.base_words.specs.Assembly.{Assembly, first_under, journal_of, outcome_of}
-use Rattle.base_words.specs.Clauses.{OutcomesRight, StandsInOrder}
-use Rattle.base_words.specs.Filters.{collected_outcomes, given_outcomes}
-use Rattle.base_words.specs.Journal.{EachNote}
-use Rattle.base_words.specs.Joining.{AreJoined}
-use Rattle.base_words.specs.Sound.{IsSound}
-use Rattle.base_words.specs.Spelled.{IsOwn, IsWithinLimits, IsSpelled}
-use Rattle.base_words.specs.Terms.{terms_of}
+use Rattle.base_words.proofs.Words.{AreJoined, arith, Assembly, collected_outcomes, EachNote, first_under, given_outcomes, IsOwn, IsSound, IsSpelled, IsWithinLimits, JobId, journal_of, outcome_of, OutcomeNote, OutcomesRight, StandsInOrder}
+use Rattle.base_words.proofs.Words.{subst, sym, terms_of, ℕ, ◌≡◌, ◌≤◌}
+use Rattle.std.proofs.Common.{Some}
 use Rattle.base_words.proofs.AllEnded.{all_ended}
 use Rattle.base_words.proofs.ClosesRight.{closes_right}
 use Rattle.base_words.proofs.OutcomesRight.{outcomes_right}

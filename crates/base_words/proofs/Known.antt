@@ -1,20 +1,8 @@
 -- What is known of each job by the journal: who stands in a line, is parked or is out is inside, and is one of these; and who entered or ended was delivered.
-use Rattle.std.proofs.Common.{◌≡◌, ℕ, ◌≤◌, ◌⊎◌, inl, inr, Bool, true, false, [], ◌∷◌, length, refl, sym, ◌∙◌, ap, subst, arith, cond}
-use Rattle.std.specs.Prelude.{◌==◌, Option, Some, None, is_some}
-use Rattle.std.proofs.lemmas.Bool.{or_cases, eqb-true, eq-eqb, true≢false}
-use Rattle.base_words.specs.declared.names.JobId.{JobId}
-use Rattle.base_words.specs.declared.note.Note.{Note}
+use Rattle.base_words.proofs.Words.{ap, arith, Bool, cond, delivered_names, EachNote, eq-eqb, eqb-true, false, false_from_ne_true, if_from, inl, inr, is_name, is_number, is_some, is_told, IsNextDelivered, IsTurnOf, JobId, jobs_out, Journal}
+use Rattle.base_words.proofs.Words.{length, line, MayFollow, MayStand, name_delivered, name_ended, name_joining, name_leaving, name_parked, name_parking, name_polled, name_settled, names_but_for, None, Note, Option, or_cases, or_else}
+use Rattle.base_words.proofs.Words.{parked, queue_entered, queue_of, refl, same_name, same_Some, Some, still_parked, subst, sym, Terms, true, true≢false, unparked, with_last, ℕ, [], ◌==◌, ◌∙◌, ◌∷◌, ◌≡◌, ◌≤◌, ◌⊎◌}
 use Rattle.base_words.specs.declared.note.Note.TheVariants.{Took, Back, Start, Resume, Yield, Park, Stayed, Done, Returned}
-use Rattle.base_words.specs.Filters.{delivered_names, name_delivered, if_from, name_ended}
-use Rattle.std.proofs.lemmas.Bool.{false_from_ne_true}
-use Rattle.std.proofs.lemmas.Option.{same_Some}
-use Rattle.base_words.specs.Journal.{Journal, EachNote, with_last, is_told, or_else}
-use Rattle.base_words.specs.Lawful.{MayFollow, MayStand, IsTurnOf, IsNextDelivered}
-use Rattle.base_words.specs.Lines.{line, jobs_out, name_joining, name_leaving, name_polled, name_settled, names_but_for}
-use Rattle.base_words.specs.Names.{same_name, is_name, is_number}
-use Rattle.base_words.specs.Parks.{parked, still_parked, unparked, name_parked, name_parking}
-use Rattle.base_words.specs.Work.{queue_of, queue_entered}
-use Rattle.base_words.specs.Terms.{Terms}
 use Rattle.base_words.proofs.NameLemmas.{among, one_name, same_as_itself, names_but-other, among-with_last, among-with_all, among-names_but_for}
 use Rattle.base_words.proofs.Parks.{parked_parts, among-still_parked, among-unparked, still_not_unparked}
 use Rattle.base_words.proofs.Told.{grows, one_longer}

@@ -1,23 +1,9 @@
 -- Two queues that keep work stay near each other, since both stay near the floor.
-use Rattle.std.proofs.Common.{◌≡◌, ℕ, ◌+◌, ◌≤◌, ◌⊎◌, inl, inr, Bool, true, false, [], ◌∷◌, ◌++◌, refl, sym, ◌∙◌, ap, arith, cond}
-use Rattle.std.specs.Prelude.{◌&&◌, Option, Some, None, not, ◌==◌}
-use Rattle.std.proofs.lemmas.Bool.{eqb-true}
-use Rattle.std.proofs.lemmas.Option.{same_Some}
-use Rattle.base_words.specs.Charge.{charge}
-use Rattle.base_words.specs.declared.names.JobId.{JobId}
-use Rattle.base_words.specs.declared.note.Note.{Note}
+use Rattle.base_words.proofs.Words.{ap, arith, Bool, brings_work, charge, charge_noted, charge_of, cond, EachNote, eqb-true, false, floor, gained, greatest_charge, has_bursts, has_work, inl, inr, is_number, IsTurnOf, JobId, Journal}
+use Rattle.base_words.proofs.Words.{KeepsWork, MayFollow, MayStand, None, not, Note, Option, or_else, place_noted, poll_charged, poll_settled, queue_begun_last, queue_in_turn, queue_of, queue_out, refl, same_Some, shares, Some, sym, Terms}
+use Rattle.base_words.proofs.Words.{true, turn_charged, turn_told, virtual_runtime, ℕ, [], ◌&&◌, ◌++◌, ◌+◌, ◌==◌, ◌∙◌, ◌∷◌, ◌≡◌, ◌≤◌, ◌⊎◌}
 use Rattle.base_words.specs.declared.note.Note.TheVariants.{Pick, Start, Resume, Yield, Park, Stayed, Done, Turned}
-use Rattle.base_words.specs.Journal.{Journal, EachNote, or_else}
-use Rattle.base_words.specs.Bursts.{has_bursts, queue_begun_last, queue_in_turn, turn_told}
-use Rattle.base_words.specs.Lag.{greatest_charge, gained, KeepsWork}
-use Rattle.base_words.specs.Lawful.{MayFollow, MayStand, IsTurnOf}
-use Rattle.base_words.specs.Lines.{queue_out}
-use Rattle.base_words.specs.Names.{is_number}
 use Rattle.base_words.specs.Picks.{queue_just_picked}
-use Rattle.base_words.specs.Polls.{poll_settled}
-use Rattle.base_words.specs.Runtimes.{floor, virtual_runtime, turn_charged, poll_charged, charge_of, charge_noted, brings_work, place_noted, shares}
-use Rattle.base_words.specs.Terms.{Terms}
-use Rattle.base_words.specs.Work.{has_work, queue_of}
 use Rattle.base_words.proofs.Counts.{queue_out-alone, queue_out-stays}
 use Rattle.base_words.proofs.NameLemmas.{number_told}
 use Rattle.base_words.proofs.JobsOut.{alone_settled, jobs_out-start, jobs_out-resume, names_but-alone, nobody_at_turn}

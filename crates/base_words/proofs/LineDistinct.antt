@@ -1,15 +1,6 @@
 -- In a lawful journal no job stands twice in a line, nor twice among the parked.
-use Rattle.std.proofs.Common.{◌≡◌, ℕ, inl, inr, Bool, true, false, List, [], ◌∷◌, ◌++◌, refl, sym, ◌∙◌, ap, cond}
-use Rattle.std.specs.Prelude.{◌||◌, Option, Some, None, not}
-use Rattle.std.proofs.lemmas.Bool.{true≢false, or_parts, false_from_ne_true}
-use Rattle.base_words.specs.declared.names.JobId.{JobId}
-use Rattle.base_words.specs.declared.note.Note.{Note}
-use Rattle.base_words.specs.Journal.{Journal, EachNote, with_last, with_all}
-use Rattle.base_words.specs.Lawful.{MayFollow, MayStand}
-use Rattle.base_words.specs.Lines.{line, name_joining, name_leaving, names_but_for, names_but}
-use Rattle.base_words.specs.Names.{same_name, names_like}
-use Rattle.base_words.specs.Parks.{parked, still_parked, unparked, name_parked, name_parking, ends_parks, name_woken}
-use Rattle.base_words.specs.Terms.{Terms}
+use Rattle.base_words.proofs.Words.{ap, Bool, cond, EachNote, ends_parks, false, false_from_ne_true, inl, inr, JobId, Journal, line, List, MayFollow, MayStand, name_joining, name_leaving, name_parked, name_parking, name_woken, names_but}
+use Rattle.base_words.proofs.Words.{names_but_for, names_like, None, not, Note, Option, or_parts, parked, refl, same_name, Some, still_parked, sym, Terms, true, true≢false, unparked, with_all, with_last, ℕ, [], ◌++◌, ◌||◌, ◌∙◌, ◌∷◌, ◌≡◌}
 pub use Rattle.base_words.proofs.NameLemmas.{names_but-other}
 use Rattle.base_words.proofs.NameLemmas.{among, one_name, same_as_itself, among-with_last, among-with_all, among-names_but_for, among-names_like}
 use Rattle.base_words.proofs.Parks.{among-still_parked, among-unparked}

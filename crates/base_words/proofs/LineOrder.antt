@@ -1,19 +1,8 @@
 -- In each line of a lawful journal the jobs of one sender that have not started stand by rising number, above all of that queue that have.
-use Rattle.std.proofs.Common.{◌≡◌, ℕ, ◌<◌, ◌⊎◌, inl, inr, Bool, true, false, List, [], ◌∷◌, ◌++◌, refl, sym, ◌∙◌, ap, subst, arith, cond}
-use Rattle.std.specs.Prelude.{◌==◌, ◌||◌, Option, Some, None, not}
-use Rattle.std.proofs.lemmas.Bool.{or_cases, or_parts, or_left, or_right, true≢false}
-use Rattle.std.proofs.lemmas.Option.{same_Some}
-use Rattle.base_words.specs.declared.names.JobId.{JobId}
-use Rattle.base_words.specs.declared.note.Note.{Note}
+use Rattle.base_words.proofs.Words.{ap, arith, Bool, cond, EachNote, false, inl, inr, is_name, is_number, is_told, JobId, Journal, line, List, MayFollow, MayStand, name_joining, name_leaving, name_started, names_but, names_but_for, None}
+use Rattle.base_words.proofs.Words.{not, Note, Option, or_cases, or_left, or_parts, or_right, parked, queue_of, refl, same_name, same_Some, Some, subst, sym, Terms, true, true≢false, unparked, with_all, with_last, ℕ, [], ◌++◌, ◌<◌, ◌==◌}
+use Rattle.base_words.proofs.Words.{◌||◌, ◌∙◌, ◌∷◌, ◌≡◌, ◌⊎◌}
 use Rattle.base_words.specs.declared.note.Note.TheVariants.{Took, Start, Yield, Stayed}
-use Rattle.base_words.specs.Filters.{name_started}
-use Rattle.base_words.specs.Journal.{Journal, EachNote, with_last, with_all, is_told}
-use Rattle.base_words.specs.Lawful.{MayFollow, MayStand}
-use Rattle.base_words.specs.Lines.{line, name_joining, name_leaving, names_but_for, names_but}
-use Rattle.base_words.specs.Names.{same_name, is_name, is_number}
-use Rattle.base_words.specs.Parks.{parked, unparked}
-use Rattle.base_words.specs.Work.{queue_of}
-use Rattle.base_words.specs.Terms.{Terms}
 use Rattle.base_words.proofs.JobsOut.{alone_out}
 use Rattle.base_words.proofs.Known.{IsOld, Known, known_of, queue_stays, first_in_line, line_parts}
 use Rattle.base_words.proofs.NameLemmas.{among, one_name, same_as_itself, among-with_last, among-with_all, among-names_but_for}

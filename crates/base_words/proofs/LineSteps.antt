@@ -1,20 +1,8 @@
 -- What each kind of note does to the lines of a lawful journal.
-use Rattle.std.proofs.Common.{◌≡◌, ℕ, Bool, true, false, List, [], ◌∷◌, ◌++◌, refl, sym, ◌∙◌}
-use Rattle.std.specs.Prelude.{◌==◌, ◌&&◌, Some, None}
-use Rattle.std.proofs.lemmas.Bool.{eq-eqb, ne_eqb, false_from_ne_true}
-use Rattle.std.proofs.lemmas.Option.{same_Some}
-use Rattle.base_words.specs.declared.names.JobId.{JobId}
-use Rattle.base_words.specs.declared.note.Note.{Note}
+use Rattle.base_words.proofs.Words.{Bool, EachNote, eq-eqb, false, false_from_ne_true, JobId, jobs_out, Journal, line, List, MayFollow, MayStand, Mode, name_joining, name_leaving, name_parked, name_parking, names_but, ne_eqb, None, Note}
+use Rattle.base_words.proofs.Words.{parked, queue_of, Reason, refl, same_Some, Some, still_parked, sym, Terms, true, unparked, ℕ, [], ◌&&◌, ◌++◌, ◌==◌, ◌∙◌, ◌∷◌, ◌≡◌}
 use Rattle.base_words.specs.declared.note.Note.TheVariants.{Took, QueueClosed, CoreClosed, Woken, Pick, Start, Resume, Yield, Park, Stayed, Done, Returned}
-use Rattle.base_words.specs.declared.order.Mode.{Mode}
 use Rattle.base_words.specs.declared.order.Mode.TheVariants.{Finish, Return}
-use Rattle.base_words.specs.declared.order.Reason.{Reason}
-use Rattle.base_words.specs.Journal.{Journal, EachNote}
-use Rattle.base_words.specs.Lawful.{MayFollow, MayStand}
-use Rattle.base_words.specs.Lines.{line, jobs_out, name_joining, name_leaving, names_but}
-use Rattle.base_words.specs.Parks.{parked, still_parked, unparked, name_parked, name_parking}
-use Rattle.base_words.specs.Work.{queue_of}
-use Rattle.base_words.specs.Terms.{Terms}
 use Rattle.base_words.proofs.JobsOut.{alone_out}
 use Rattle.base_words.proofs.Known.{known_of, parked-kept}
 use Rattle.base_words.proofs.LineDistinct.{names_but-first, names_but-other, names_like-one, names_like-none, apart_of}

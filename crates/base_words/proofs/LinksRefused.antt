@@ -1,20 +1,11 @@
 -- What each of these orders calls for is something else.
-use Rattle.std.proofs.Common.{◌≡◌, ℕ, inl, inr, [], ◌∷◌, refl, sym, ◌∙◌, ap, subst, arith}
-use Rattle.std.specs.Prelude.{Option, Some}
-use Rattle.std.proofs.lemmas.Option.{same_Some}
-use Rattle.base_words.specs.declared.note.Note.{Note}
+use Rattle.base_words.proofs.Words.{Answer, ap, arith, effect_note, inl, inr, IsAnswer, Journal, LinksAreRefused, Note, Option, Order, Outcomes, refl, refusal, same_Some, Some, subst, sym, ℕ, [], ◌∙◌, ◌∷◌, ◌≡◌}
 use Rattle.base_words.specs.declared.note.Note.TheVariants as notes
 use Rattle.base_words.specs.declared.note.OutcomeNote.TheVariants.{Finished}
-use Rattle.base_words.specs.declared.order.Answer.{Answer}
 use Rattle.base_words.specs.declared.order.Answer.TheVariants as answers
 use Rattle.base_words.specs.declared.order.Mode.TheVariants.{Finish, Return}
-use Rattle.base_words.specs.declared.order.Order.{Order}
 use Rattle.base_words.specs.declared.order.Order.TheVariants.{Job, Create, Close, CloseCore}
 use Rattle.base_words.specs.declared.order.Reason.TheVariants as why
-use Rattle.base_words.specs.BadLinks.{LinksAreRefused}
-use Rattle.base_words.specs.Commands.{IsAnswer, effect_note, refusal}
-use Rattle.base_words.specs.Filters.{Outcomes}
-use Rattle.base_words.specs.Journal.{Journal}
 use Rattle.base_words.proofs.NameLemmas.{first_number}
 
 -- what answers the order that was accepted answers the one that was sent

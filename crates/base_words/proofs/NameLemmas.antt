@@ -1,10 +1,7 @@
 -- Names that are one, and names among others.
-use Rattle.std.proofs.Common.{◌≡◌, ℕ, ◌⊎◌, inl, inr, Bool, true, false, List, [], ◌∷◌, ◌++◌, refl, sym, ◌∙◌, ap, cond}
-use Rattle.std.specs.Prelude.{◌==◌, ◌&&◌, ◌||◌, not, Option, Some, None}
-use Rattle.std.proofs.lemmas.Bool.{and_parts, or_parts, eqb-true, eq-eqb, true≢false}
-use Rattle.base_words.specs.declared.names.JobId.{JobId}
-use Rattle.base_words.specs.Journal.{with_last, with_all}
-use Rattle.base_words.specs.Names.{same_name, is_name, is_number, names_but, names_but_for, names_like}
+use Rattle.base_words.proofs.Words.{and_parts, ap, Bool, cond, eq-eqb, eqb-true, false, inl, inr, is_name, is_number, JobId, List, names_like, None, not, Option, or_parts, refl, same_name, Some, sym, true, true≢false, with_all, with_last}
+use Rattle.base_words.proofs.Words.{ℕ, [], ◌&&◌, ◌++◌, ◌==◌, ◌||◌, ◌∙◌, ◌∷◌, ◌≡◌, ◌⊎◌}
+use Rattle.base_words.specs.Names.{names_but, names_but_for}
 pub use Rattle.base_words.specs.Names.{among}
 
 -- names with the same parts are one

@@ -1,11 +1,6 @@
 -- An open turn: none is where a queue was just picked, so a turn that is taken there is that of the pick.
-use Rattle.std.proofs.Common.{◌≡◌, ℕ, inl, inr, Bool, true, false, [], ◌∷◌, refl, sym, ◌∙◌, cond}
-use Rattle.std.specs.Prelude.{Option, Some, None, is_some}
-use Rattle.base_words.specs.declared.names.JobId.{JobId}
+use Rattle.base_words.proofs.Words.{Bool, cond, false, has_bursts, inl, inr, is_some, IsTurnOf, JobId, Journal, None, Option, queue_in_turn, queue_just_picked, refl, Some, sym, true, ℕ, [], ◌∙◌, ◌∷◌, ◌≡◌}
 use Rattle.base_words.specs.declared.note.Note.TheVariants.{Pick}
-use Rattle.base_words.specs.Bursts.{has_bursts, queue_just_picked, queue_in_turn}
-use Rattle.base_words.specs.Journal.{Journal}
-use Rattle.base_words.specs.Lawful.{IsTurnOf}
 
 -- nothing is chosen of two that aren't there
 pub none_either : (form : Bool) → ◌≡◌ {A = Option ℕ} (cond form None None) None

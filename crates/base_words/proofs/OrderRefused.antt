@@ -1,7 +1,5 @@
 -- Each fault of order breaks the second clause.
-use Rattle.std.proofs.Common.{◌≡◌, ◌<◌, refl, arith, ap}
-use Rattle.base_words.specs.BadOrder.{OrderIsRefused}
-use Rattle.base_words.specs.BadJournals.{submission}
+use Rattle.base_words.proofs.Words.{ap, arith, OrderIsRefused, refl, submission, ◌<◌, ◌≡◌}
 use Rattle.base_words.proofs.NameLemmas.{first_number}
 
 pub order_refused : OrderIsRefused

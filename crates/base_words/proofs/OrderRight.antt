@@ -1,13 +1,6 @@
 -- Order: in a lawful journal whose deliveries are as sent, one sender's jobs in one queue start by rising number.
-use Rattle.std.proofs.Common.{[], ◌∷◌, ◌∙◌}
-use Rattle.base_words.specs.declared.note.Note.{Note}
+use Rattle.base_words.proofs.Words.{Assembly, DeliversAsSent, EachNote, Journal, MayFollow, MayStand, Note, StandsInOrder, Terms, [], ◌∙◌, ◌∷◌}
 use Rattle.base_words.specs.declared.note.Note.TheVariants.{Sent, Took, Start}
-use Rattle.base_words.specs.Assembly.{Assembly}
-use Rattle.base_words.specs.Clauses.{StandsInOrder}
-use Rattle.base_words.specs.Journal.{Journal, EachNote}
-use Rattle.base_words.specs.Joining.{DeliversAsSent}
-use Rattle.base_words.specs.Lawful.{MayFollow, MayStand}
-use Rattle.base_words.specs.Terms.{Terms}
 use Rattle.base_words.proofs.Known.{known_of, first_in_line}
 use Rattle.base_words.proofs.LineOrder.{rise_of}
 

@@ -1,13 +1,9 @@
 -- Each bad outcome breaks the fourth clause.
-use Rattle.std.proofs.Common.{◌≡◌, ℕ, zero, suc, ◌≤◌, Some, refl, arith}
+use Rattle.base_words.proofs.Words.{arith, delivered_names, final_count, IsDrained, Journal, OutcomesAreRefused, refl, submission, suc, zero, ℕ, ◌≡◌, ◌≤◌}
+use Rattle.std.proofs.Common.{Some}
 use Rattle.std.specs.Prelude.{[], ◌∷◌, length}
 use Rattle.base_words.specs.declared.note.Note.TheVariants.{CoreClosed, Shut}
 use Rattle.base_words.specs.declared.order.Mode.TheVariants.{Finish}
-use Rattle.base_words.specs.BadJournals.{submission}
-use Rattle.base_words.specs.BadOutcomes.{OutcomesAreRefused}
-use Rattle.base_words.specs.Closing.{IsDrained, final_count}
-use Rattle.base_words.specs.Filters.{delivered_names}
-use Rattle.base_words.specs.Journal.{Journal}
 
 -- a core that shut both gates at 0 is drained
 abbrev shut_at_0 : Journal ℕ

@@ -1,25 +1,9 @@
 -- Outcomes: in a lawful journal whose deliveries are as sent, no job ends twice, none is done before it started, no command is answered twice, and what is redeemed was given.
-use Rattle.std.proofs.Common.{◌≡◌, ◌≤◌, inl, inr, true, false, [], ◌∷◌, refl, sym, ◌∙◌, subst}
-use Rattle.std.proofs.lemmas.Bool.{or_cases, or_parts, eq-eqb, true≢false, false_from_ne_true}
-use Rattle.base_words.specs.declared.names.JobId.{JobId}
-use Rattle.base_words.specs.declared.note.Note.{Note}
+use Rattle.base_words.proofs.Words.{Answer, Assembly, collected_outcomes, DeliversAsSent, EachNote, eq-eqb, false, false_from_ne_true, first_under, inl, inr, is_name, is_told, IsAcceptedCommand, IsAnswer, IsNextDelivered, IsOwn, JobId}
+use Rattle.base_words.proofs.Words.{Journal, MayFollow, MayStand, name_answered, name_collected, name_detached, name_redeemed, Note, or_cases, or_parts, Order, order_of, outcome_collected, outcome_of, OutcomeNote, OutcomesRight, refl, Some}
+use Rattle.base_words.proofs.Words.{StandsInOrder, subst, sym, Terms, true, true≢false, [], ◌∙◌, ◌∷◌, ◌≡◌, ◌≤◌}
 use Rattle.base_words.specs.declared.note.Note.TheVariants.{Back, Answered, Done, Returned, Collected, Redeemed}
-use Rattle.std.specs.Prelude.{Some}
-use Rattle.base_words.specs.declared.note.OutcomeNote.{OutcomeNote}
-use Rattle.base_words.specs.declared.order.Answer.{Answer}
-use Rattle.base_words.specs.declared.order.Order.{Order}
 use Rattle.base_words.specs.declared.order.Order.TheVariants.{Job, Create, SetShares, Close, CloseCore, Wake}
-use Rattle.base_words.specs.Assembly.{Assembly, first_under, order_of, outcome_of, IsAcceptedCommand}
-use Rattle.base_words.specs.Commands.{IsAnswer}
-use Rattle.base_words.specs.Clauses.{StandsInOrder, OutcomesRight, name_answered}
-use Rattle.base_words.specs.Filters.{collected_outcomes, outcome_collected}
-use Rattle.base_words.specs.Journal.{Journal, EachNote, is_told}
-use Rattle.base_words.specs.Joining.{DeliversAsSent}
-use Rattle.base_words.specs.Lawful.{MayFollow, MayStand, IsNextDelivered}
-use Rattle.base_words.specs.Names.{is_name}
-use Rattle.base_words.specs.Outstanding.{name_collected, name_redeemed, name_detached}
-use Rattle.base_words.specs.Spelled.{IsOwn}
-use Rattle.base_words.specs.Terms.{Terms}
 use Rattle.base_words.proofs.Collected.{accepted_own, collected_own, nothing_collected_under}
 use Rattle.base_words.proofs.JobsOut.{alone_out}
 use Rattle.base_words.proofs.Known.{IsOld, known_of, first_in_line, next_old, not_old, still_old}

@@ -1,13 +1,7 @@
 -- Who stays parked when a note ends parks, and whose park it ends.
-use Rattle.std.proofs.Common.{◌≡◌, ℕ, ◌+◌, ◌⊎◌, inl, inr, Bool, true, false, List, [], ◌∷◌, length, refl, sym, ◌∙◌, arith, cond}
-use Rattle.std.specs.Prelude.{Option, Some, None, not}
-use Rattle.std.proofs.lemmas.Bool.{true≢false}
-use Rattle.std.proofs.lemmas.List.Filters.{length-filter_both}
-use Rattle.base_words.specs.declared.names.JobId.{JobId}
-use Rattle.base_words.specs.declared.note.Note.{Note}
-use Rattle.base_words.specs.Names.{same_name, is_name, names_but_for, names_like}
-use Rattle.base_words.specs.Journal.{Journal}
-use Rattle.base_words.specs.Parks.{name_woken, ends_parks, name_parked, name_parking, parked, still_parked, unparked}
+use Rattle.base_words.proofs.Words.{arith, Bool, cond, ends_parks, false, inl, inr, is_name, JobId, Journal, length, length-filter_both, List, name_parked, name_parking, name_woken, names_like, None, not, Note, Option, parked, refl}
+use Rattle.base_words.proofs.Words.{same_name, Some, still_parked, sym, true, true≢false, unparked, ℕ, [], ◌+◌, ◌∙◌, ◌∷◌, ◌≡◌, ◌⊎◌}
+use Rattle.base_words.specs.Names.{names_but_for}
 use Rattle.base_words.proofs.NameLemmas.{among, one_name, among-with_last, among-names_but_for, among-names_like, among-like, among-kept}
 
 -- a job that is still parked was parked before, and its park isn't ended

@@ -1,6 +1,5 @@
 -- Each bad park breaks the law of its note.
-use Rattle.std.proofs.Common.{◌≡◌, ap, arith}
-use Rattle.base_words.specs.BadParks.{ParksAreRefused}
+use Rattle.base_words.proofs.Words.{ap, arith, ParksAreRefused, ◌≡◌}
 use Rattle.base_words.proofs.NameLemmas.{first_number}
 
 pub parks_refused : ParksAreRefused

@@ -1,17 +1,9 @@
 -- A queue with work stands at or above the floor, so that the virtual runtimes of the picks never fall.
-use Rattle.std.proofs.Common.{◌≡◌, ℕ, ◌+◌, ◌<◌, ◌≤◌, ◌⊎◌, inl, inr, Bool, true, false, [], ◌∷◌, refl, sym, ◌∙◌, ap, arith}
-use Rattle.std.specs.Prelude.{max, nat_lt, length}
-use Rattle.std.proofs.lemmas.Bool.{ltb-true, lt-ltb, ltb-false, or_parts, true≢false}
-use Rattle.base_words.specs.declared.note.Note.{Note}
+use Rattle.base_words.proofs.Words.{ap, arith, Bool, brings_work, EachNote, entered_count, false, floor, has_work, inl, inr, is_number, IsNoLowerPick, Journal, left_count, lt-ltb, ltb-false, ltb-true, max, MayFollow, MayStand, name_parked}
+use Rattle.base_words.proofs.Words.{name_parking, nat_lt, Note, number_if, or_parts, parked, place_noted, queue_joined, refl, runtime_picked, still_parked, sym, Terms, true, true≢false, unparked, virtual_runtime, ℕ, [], ◌+◌, ◌<◌, ◌∙◌, ◌∷◌}
+use Rattle.base_words.proofs.Words.{◌≡◌, ◌≤◌, ◌⊎◌}
+use Rattle.std.specs.Prelude.{length}
 use Rattle.base_words.specs.declared.note.Note.TheVariants.{Pick}
-use Rattle.base_words.specs.Journal.{Journal, EachNote}
-use Rattle.base_words.specs.Lawful.{MayFollow, MayStand}
-use Rattle.base_words.specs.Laws.{IsNoLowerPick}
-use Rattle.base_words.specs.Names.{is_number}
-use Rattle.base_words.specs.Parks.{parked, still_parked, unparked, name_parked, name_parking}
-use Rattle.base_words.specs.Runtimes.{virtual_runtime, floor, brings_work, place_noted, runtime_picked}
-use Rattle.base_words.specs.Work.{has_work, left_count, entered_count, queue_joined, number_if}
-use Rattle.base_words.specs.Terms.{Terms}
 use Rattle.base_words.specs.Names.{names_but_for}
 use Rattle.base_words.proofs.Known.{known_of, parked-kept}
 use Rattle.base_words.proofs.Parks.{length-parks}

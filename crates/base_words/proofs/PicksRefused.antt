@@ -1,7 +1,5 @@
 -- Each bad pick breaks the fifth clause.
-use Rattle.std.proofs.Common.{◌≡◌, ℕ, inl, inr, ◌<◌, refl, ap, arith}
-use Rattle.base_words.specs.Keys.{KeyAtMost}
-use Rattle.base_words.specs.PicksRefused.{PicksAreRefused}
+use Rattle.base_words.proofs.Words.{ap, arith, inl, inr, KeyAtMost, PicksAreRefused, refl, ℕ, ◌<◌, ◌≡◌}
 use Rattle.base_words.proofs.NameLemmas.{first_number}
 
 pub picks_refused : PicksAreRefused

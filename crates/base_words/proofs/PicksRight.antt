@@ -1,19 +1,8 @@
 -- Picks: each pick of a lawful journal is right and is followed at once by a note that takes its turn; a poll is settled for the job that is out.
-use Rattle.std.proofs.Common.{◌≡◌, ℕ, false, [], ◌∷◌, refl, sym, ◌∙◌, inl, inr, Bool, true, cond}
-use Rattle.std.specs.Prelude.{Option, Some, None, is_some, not}
-use Rattle.std.proofs.lemmas.Bool.{false_from_ne_true}
-use Rattle.base_words.specs.declared.names.JobId.{JobId}
-use Rattle.base_words.specs.declared.note.Note.{Note}
+use Rattle.base_words.proofs.Words.{among, Bool, cond, EachNote, false, false_from_ne_true, GoesOn, inl, inr, is_parked, is_some, IsFurtherPoll, IsInItsTurn, IsOfNoParkedJob, IsOfTheJobOut, IsRightIfPick, IsSome, IsTurnOf, JobId, Journal}
+use Rattle.base_words.proofs.Words.{MayFollow, MayStand, None, not, Note, Option, parked, PicksRight, queue_in_turn, queue_of, queue_served, refl, Some, sym, takes_turn, Terms, true, ℕ, [], ◌∙◌, ◌∷◌, ◌≡◌}
 use Rattle.base_words.specs.declared.note.Note.TheVariants.{Pick, Start, Resume, Yield, Park, Stayed, Done, Returned, Turned}
-use Rattle.base_words.specs.Clauses.{PicksRight, IsRightIfPick, IsOfTheJobOut, IsOfNoParkedJob, queue_just_picked, queue_served, takes_turn, IsInItsTurn, IsFurtherPoll}
-use Rattle.base_words.specs.Journal.{Journal, EachNote}
-use Rattle.base_words.specs.Lawful.{MayFollow, MayStand, IsTurnOf, GoesOn}
-use Rattle.base_words.specs.Names.{among}
-use Rattle.base_words.specs.Parks.{parked, is_parked}
-use Rattle.std.specs.Option.{IsSome}
-use Rattle.base_words.specs.Bursts.{queue_in_turn}
-use Rattle.base_words.specs.Work.{queue_of}
-use Rattle.base_words.specs.Terms.{Terms}
+use Rattle.base_words.specs.Clauses.{queue_just_picked}
 use Rattle.base_words.proofs.Known.{known_of, first_in_line}
 use Rattle.base_words.proofs.OpenTurns.{no_turn_at_pick, turn_of_pick}
 

@@ -1,8 +1,5 @@
 -- What holds of the beginning of a list.
-use Rattle.std.proofs.Common.{◌≡◌, ℕ, ◌≤◌, List, [], ◌∷◌, ◌++◌, length, take, drop, refl, sym, ap, ◌∙◌, ◌+◌, arith, length-append, append_assoc, append-nil}
-use Rattle.std.proofs.lemmas.List.{map-append, take-append-drop}
-use Rattle.base_words.specs.declared.names.JobId.{JobId}
-use Rattle.base_words.specs.Assembly.{IsPrefix, names_of}
+use Rattle.base_words.proofs.Words.{ap, append-nil, append_assoc, arith, drop, IsPrefix, JobId, length, length-append, List, map-append, names_of, refl, sym, take, take-append-drop, ℕ, [], ◌++◌, ◌+◌, ◌∙◌, ◌∷◌, ◌≡◌, ◌≤◌}
 
 module _ {A : Type 0} where
   pub IsPrefix-self : (xs : List A) → IsPrefix xs xs

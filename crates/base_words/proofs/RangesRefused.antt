@@ -1,7 +1,5 @@
 -- Each number beyond its range breaks the law of its note.
-use Rattle.std.proofs.Common.{◌<◌, ◌≤◌, arith}
-use Rattle.std.specs.Prelude.{◌^◌}
-use Rattle.base_words.specs.BadRanges.{RangesAreRefused}
+use Rattle.base_words.proofs.Words.{arith, RangesAreRefused, ◌<◌, ◌^◌, ◌≤◌}
 
 pub ranges_refused : RangesAreRefused
 ranges_refused = record {

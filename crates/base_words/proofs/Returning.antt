@@ -1,25 +1,11 @@
 -- A queue that hands back, because it is closed or its core is: nobody enters it, and each pick of it is followed by a hand-back.
-use Rattle.std.proofs.Common.{◌≡◌, ℕ, ◌+◌, ◌<◌, ◌≤◌, ◌⊎◌, inl, inr, Bool, true, false, [], ◌∷◌, refl, sym, ◌∙◌, arith, cond}
-use Rattle.std.specs.Prelude.{◌==◌, ◌&&◌, Option, Some, None, is_some, nat_le, IsTrue}
-use Rattle.std.proofs.lemmas.Bool.{eqb-true, leb-true, or_parts, true≢false, false_from_ne_true}
-use Rattle.std.proofs.lemmas.Option.{same_Some}
-use Rattle.base_words.specs.declared.names.JobId.{JobId}
-use Rattle.base_words.specs.declared.note.Note.{Note}
+use Rattle.base_words.proofs.Words.{arith, Bool, closes, cond, core_mode, created_count, EachNote, entered_count, eqb-true, false, false_from_ne_true, inl, inr, is_hand_back, is_number, is_return, is_some, is_wake_kept, IsTrue, IsTurnOf}
+use Rattle.base_words.proofs.Words.{JobId, Journal, leb-true, list_told, MayFollow, MayStand, Mode, nat_le, None, Note, number_if, Option, or_else, or_parts, parked, queue_created, queue_joined, queue_mode, queue_of, Reason}
+use Rattle.base_words.proofs.Words.{reason_if_closed, reason_if_returning, refl, refusal, return_reason, return_reason_of, same_Some, Some, stays_in_line, sym, Terms, true, true≢false, ℕ, [], ◌&&◌, ◌+◌, ◌<◌, ◌==◌, ◌∙◌, ◌∷◌, ◌≡◌, ◌≤◌, ◌⊎◌}
 use Rattle.base_words.specs.declared.note.Note.TheVariants.{Took, Created, QueueClosed, CoreClosed, Woken, Start, Resume, Park, Returned}
-use Rattle.base_words.specs.declared.order.Mode.{Mode}
 use Rattle.base_words.specs.declared.order.Mode.TheVariants.{Finish, Return}
-use Rattle.base_words.specs.declared.order.Reason.{Reason}
 use Rattle.base_words.specs.declared.order.Reason.TheVariants as why
-use Rattle.base_words.specs.Closing.{closes, queue_mode, core_mode}
-use Rattle.base_words.specs.Commands.{created_count, refusal, return_reason, return_reason_of, stays_in_line, queue_created, reason_if_closed, reason_if_returning}
-use Rattle.base_words.specs.HandBacks.{is_hand_back}
-use Rattle.base_words.specs.Journal.{Journal, EachNote, list_told, or_else}
-use Rattle.base_words.specs.Lawful.{MayFollow, MayStand, IsTurnOf}
-use Rattle.base_words.specs.Names.{is_number}
 use Rattle.base_words.specs.Picks.{queue_just_picked}
-use Rattle.base_words.specs.Terms.{Terms}
-use Rattle.base_words.specs.Parks.{parked, is_return, is_wake_kept}
-use Rattle.base_words.specs.Work.{queue_of, entered_count, queue_joined, number_if}
 use Rattle.base_words.proofs.NameLemmas.{number_told}
 use Rattle.base_words.proofs.ClosesRight.{created_open}
 use Rattle.base_words.proofs.OpenTurns.{turn_of_pick}

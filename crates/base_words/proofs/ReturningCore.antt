@@ -1,20 +1,8 @@
 -- A core that closes in mode `Return` hands back what is inside, and is drained: its journals are lawful and joined.
-use Rattle.std.proofs.Common.{◌≡◌, ℕ, inl, zero, suc, ◌<◌, ◌≤◌, Bool, true, false, [], ◌∷◌, length, refl, sym, ◌∙◌, arith}
-use Rattle.std.specs.Prelude.{◌==◌, Some}
-use Rattle.std.proofs.lemmas.Bool.{true≢false}
-use Rattle.std.proofs.lemmas.Option.{same_Some}
+use Rattle.base_words.proofs.Words.{accepted_orders, AreJoined, arith, Bool, both_returned, both_taken, collected_outcomes, core_terms, delivered_names, DeliversAsSent, detached_one, EachNote, false, final_count, given_outcomes, has_work}
+use Rattle.base_words.proofs.Words.{inl, IsLawful, IsPrefix, IsRightPick, IsServed, journal_of, length, names_of, one_returned, outside_terms, refl, returning, returning_core, same_Some, Some, submission, suc, sym, terms_of, true}
+use Rattle.base_words.proofs.Words.{true≢false, zero, ℕ, [], ◌<◌, ◌==◌, ◌∙◌, ◌∷◌, ◌≡◌, ◌≤◌}
 use Rattle.base_words.specs.declared.order.Order.TheVariants.{Job}
-use Rattle.base_words.specs.Assembly.{journal_of, IsPrefix, names_of}
-use Rattle.base_words.specs.BadJournals.{submission, core_terms, outside_terms, both_taken}
-use Rattle.base_words.specs.Closing.{final_count}
-use Rattle.base_words.specs.Filters.{accepted_orders, delivered_names, collected_outcomes, given_outcomes}
-use Rattle.base_words.specs.GoodJournals.{returning, one_returned, both_returned, detached_one, returning_core, IsServed}
-use Rattle.base_words.specs.Joining.{AreJoined, DeliversAsSent}
-use Rattle.base_words.specs.Journal.{EachNote}
-use Rattle.base_words.specs.Lawful.{IsLawful}
-use Rattle.base_words.specs.Picks.{IsRightPick}
-use Rattle.base_words.specs.Terms.{terms_of}
-use Rattle.base_words.specs.Work.{has_work}
 use Rattle.base_words.proofs.Joining.{joining_is_sound}
 use Rattle.base_words.proofs.FinishingCore.{only_queue}
 use Rattle.base_words.proofs.Both.{◌&◌}

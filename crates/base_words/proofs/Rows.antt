@@ -1,23 +1,12 @@
 -- The definitions, computed on small journals.
-use Rattle.std.proofs.Common.{◌≡◌, ℕ, [], ◌∷◌, refl, true, false}
-use Rattle.std.specs.Prelude.{reverse, map, Some, None}
-use Rattle.base_words.specs.declared.names.JobId.{JobId}
+use Rattle.base_words.proofs.Words.{accepted_orders, at_place, closed_over, delivered_names, false, finishes, first_parked, first_woken, floor, given_outcomes, handed_back, has_work, is_inside, is_wake_kept, JobId, jobs_inside, jobs_out}
+use Rattle.base_words.proofs.Words.{Journal, line, map, None, own, parked, queue_out, refl, returns, reverse, shares, Some, starts, stayed, true, turns, virtual_runtime, wake_kept, woken_early, woken_later, ℕ, [], ◌∷◌, ◌≡◌}
 use Rattle.base_words.specs.declared.note.Note.TheVariants.{Sent, Took, Created, QueueClosed, Answered, Pick, Start, Resume, Yield, Park, Done, Returned}
 use Rattle.base_words.specs.declared.note.OutcomeNote.TheVariants.{Finished}
 use Rattle.base_words.specs.declared.order.Order.TheVariants as order
 use Rattle.base_words.specs.declared.order.Mode.TheVariants as mode
 use Rattle.base_words.specs.declared.order.Reason.TheVariants as reason
 use Rattle.base_words.specs.declared.order.Answer.TheVariants as answer
-use Rattle.base_words.specs.Filters.{accepted_orders, delivered_names, given_outcomes, starts, finishes, returns}
-use Rattle.base_words.specs.Commands.{is_inside}
-use Rattle.base_words.specs.GoodParks.{own, first_parked, first_woken, woken_later, wake_kept, stayed, woken_early, closed_over, handed_back}
-use Rattle.base_words.specs.HandBacks.{jobs_inside}
-use Rattle.base_words.specs.Journal.{Journal, at_place}
-use Rattle.base_words.specs.Lines.{jobs_out, line, queue_out}
-use Rattle.base_words.specs.Parks.{parked, is_wake_kept}
-use Rattle.base_words.specs.Picks.{turns}
-use Rattle.base_words.specs.Runtimes.{virtual_runtime, floor, shares}
-use Rattle.base_words.specs.Work.{has_work}
 
 job : ℕ → JobId
 job number = record { from = 0; to = 0; number = number }

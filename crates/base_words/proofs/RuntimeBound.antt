@@ -1,22 +1,11 @@
 -- A turn costs less than 2^50, and each was picked: so after n turns a virtual runtime is at most n * 2^50.
-use Rattle.std.proofs.Common.{◌≡◌, ℕ, ◌+◌, ◌-◌, ◌*◌, ◌^◌, ◌<◌, ◌≤◌, Bool, true, false, [], ◌∷◌, length, ap, arith, cond, refl}
-use Rattle.std.specs.Prelude.{◌==◌, ◌&&◌, Option, Some, None, is_some, not, unwrap_or}
-use Rattle.std.proofs.Math.Nat.{div-lt_iff_lt-mul}
-use Rattle.base_words.specs.Charge.{InRange, charge, clamped}
-use Rattle.base_words.specs.declared.names.JobId.{JobId}
-use Rattle.base_words.specs.declared.note.Note.{Note}
+use Rattle.base_words.proofs.Words.{ap, arith, Bool, brings_work, charge, charge_noted, charge_of, clamped, cond, div-lt_iff_lt-mul, EachNote, false, floor, has_bursts, has_work, InRange, is_number, is_some, JobId, jobs_out, Journal}
+use Rattle.base_words.proofs.Words.{length, MayFollow, MayStand, None, not, Note, number_if, Option, or_else, place_noted, poll_charged, poll_settled, queue_begun_last, queue_just_picked, queue_of, refl, runtime_picked, shares, Some, Terms}
+use Rattle.base_words.proofs.Words.{true, turn_charged, turn_told, turns, unwrap_or, virtual_runtime, ℕ, [], ◌&&◌, ◌*◌, ◌+◌, ◌-◌, ◌<◌, ◌==◌, ◌∷◌, ◌≡◌, ◌≤◌}
+use Rattle.std.proofs.Common.{◌^◌}
 use Rattle.base_words.specs.declared.note.Note.TheVariants.{Created, SharesSet, Pick, Start, Resume, Yield, Park, Stayed, Done, Turned}
 use Rattle.base_words.specs.Clauses.{queue_just_picked}
-use Rattle.base_words.specs.Journal.{Journal, EachNote, or_else}
-use Rattle.base_words.specs.Bursts.{has_bursts, queue_just_picked, queue_begun_last, turn_told}
-use Rattle.base_words.specs.Lawful.{MayFollow, MayStand, takes_turn}
-use Rattle.base_words.specs.Lines.{jobs_out}
-use Rattle.base_words.specs.Names.{is_number}
-use Rattle.base_words.specs.Picks.{turns}
-use Rattle.base_words.specs.Runtimes.{virtual_runtime, floor, shares, brings_work, place_noted, turn_charged, poll_charged, charge_of, charge_noted, runtime_picked}
-use Rattle.base_words.specs.Polls.{poll_settled}
-use Rattle.base_words.specs.Work.{has_work, queue_of, number_if}
-use Rattle.base_words.specs.Terms.{Terms}
+use Rattle.base_words.specs.Lawful.{takes_turn}
 use Rattle.base_words.proofs.JobsOut.{nobody_at_turn, jobs_out-start, jobs_out-resume, names_but-alone}
 
 -- whether a note ends a turn, where each settled poll does, and where a note of its own does

@@ -1,22 +1,9 @@
 -- What each kind of note does to the virtual runtime and the shares of a queue, and to the floor.
-use Rattle.std.proofs.Common.{◌≡◌, ℕ, ◌+◌, Bool, true, false, List, [], ◌∷◌, length, refl, sym, arith, cond}
-use Rattle.std.specs.Prelude.{◌&&◌, not, nat_lt, Some, None, max}
-use Rattle.std.proofs.lemmas.Bool.{eq-eqb, ne_eqb, lt-ltb, true≢false}
-use Rattle.base_words.specs.Charge.{charge}
-use Rattle.base_words.specs.declared.names.JobId.{JobId}
-use Rattle.base_words.specs.declared.note.Note.{Note}
+use Rattle.base_words.proofs.Words.{among, arith, Bool, brings_work, charge, charge_noted, charge_of, cond, EachNote, eq-eqb, false, floor, has_bursts, has_work, IsRightPick, JobId, Journal, length, List, lt-ltb, max, MayStand, names_like}
+use Rattle.base_words.proofs.Words.{nat_lt, ne_eqb, None, not, Note, or_else, parked, poll_settled, queue_of, refl, runtime_picked, shares, shares_told, Some, sym, Terms, true, true≢false, turn_told, virtual_runtime, ℕ, [], ◌&&◌, ◌+◌, ◌∷◌}
+use Rattle.base_words.proofs.Words.{◌≡◌}
 use Rattle.base_words.specs.declared.note.Note.TheVariants.{Took, Created, SharesSet, QueueClosed, CoreClosed, Woken, Pick, Yield, Park, Stayed, Done, Turned}
 use Rattle.base_words.specs.declared.order.Mode.TheVariants.{Return}
-use Rattle.base_words.specs.Journal.{Journal, EachNote, or_else}
-use Rattle.base_words.specs.Lawful.{MayStand}
-use Rattle.base_words.specs.Names.{among, names_like}
-use Rattle.base_words.specs.Parks.{parked}
-use Rattle.base_words.specs.Bursts.{has_bursts, turn_told}
-use Rattle.base_words.specs.Picks.{IsRightPick}
-use Rattle.base_words.specs.Polls.{poll_settled}
-use Rattle.base_words.specs.Runtimes.{virtual_runtime, floor, shares, shares_told, brings_work, charge_of, charge_noted, runtime_picked}
-use Rattle.base_words.specs.Work.{has_work, queue_of}
-use Rattle.base_words.specs.Terms.{Terms}
 use Rattle.base_words.proofs.NameLemmas.{among-like}
 use Rattle.base_words.proofs.PicksNeverFall.{floor_below}
 use Rattle.base_words.proofs.RuntimeBound.{poll_in_turn}

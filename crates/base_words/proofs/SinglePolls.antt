@@ -1,17 +1,7 @@
 -- With a burst of one each definition is that of turns of a single poll.
-use Rattle.std.proofs.Common.{◌≡◌, inl, inr, ℕ, true, refl, cond}
-use Rattle.std.specs.Prelude.{Some, None}
-use Rattle.base_words.specs.Charge.{charge}
-use Rattle.base_words.specs.declared.names.JobId.{JobId}
+use Rattle.base_words.proofs.Words.{charge, charge_noted, cond, inl, inr, is_number, IsOfTheTurn, IsTurnEnd, IsTurnOf, JobId, Journal, None, queue_in_turn, queue_just_picked, queue_of, refl, shares, Some, true, ℕ, ◌≡◌}
 use Rattle.base_words.specs.declared.note.Note.TheVariants.{Start, Resume, Yield, Done, Turned}
-use Rattle.base_words.specs.Bursts.{queue_in_turn, queue_just_picked}
-use Rattle.base_words.specs.Journal.{Journal}
-use Rattle.base_words.specs.Lawful.{IsTurnOf, IsTurnEnd}
-use Rattle.base_words.specs.Clauses.{IsOfTheTurn}
-use Rattle.base_words.specs.Names.{is_number}
 use Rattle.base_words.specs.Picks.{takes_turn, queue_served}
-use Rattle.base_words.specs.Runtimes.{charge_noted, shares}
-use Rattle.base_words.specs.Work.{queue_of}
 
 module _ {T : Type 0} (before : Journal T) where
   -- no turn is ever open

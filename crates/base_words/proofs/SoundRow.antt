@@ -1,23 +1,11 @@
 -- A core that creates a queue on command and runs a job in it is lawful, its links agree, and so it is sound: the law of joining is about something.
-use Rattle.std.proofs.Common.{◌≡◌, ℕ, inl, suc, zero, ◌<◌, ◌≤◌, inr, Bool, true, false, [], ◌∷◌, refl, sym, ◌∙◌, arith, eqb-true}
-use Rattle.std.proofs.lemmas.Bool.{true≢false}
-use Rattle.std.specs.Prelude.{◌==◌, Some, length, map}
-use Rattle.base_words.specs.declared.names.JobId.{JobId}
+use Rattle.base_words.proofs.Words.{accepted_orders, arith, Assembly, Bool, collected_outcomes, delivered_names, DeliversAsSent, EachNote, false, final_count, given_outcomes, has_work, inl, inr, IsLawful, IsPrefix, IsRightPick, IsSound}
+use Rattle.base_words.proofs.Words.{JobId, Journal, journal_of, KeyAtMost, LinksAgree, map, refl, Some, suc, sym, terms_of, true, true≢false, virtual_runtime, zero, ℕ, [], ◌<◌, ◌==◌, ◌∙◌, ◌∷◌, ◌≡◌, ◌≤◌}
+use Rattle.std.proofs.Common.{eqb-true}
+use Rattle.std.specs.Prelude.{length}
 use Rattle.base_words.specs.declared.note.Note.TheVariants.{Sent, Answered, Created, Took, Pick, Start, Yield, Resume, Done}
 use Rattle.base_words.specs.declared.order.Answer.TheVariants as answers
 use Rattle.base_words.specs.declared.order.Order.TheVariants.{Job, Create}
-use Rattle.base_words.specs.Assembly.{Assembly, journal_of, IsPrefix}
-use Rattle.base_words.specs.Closing.{final_count}
-use Rattle.base_words.specs.Filters.{accepted_orders, delivered_names, collected_outcomes, given_outcomes}
-use Rattle.base_words.specs.Journal.{Journal, EachNote}
-use Rattle.base_words.specs.Joining.{DeliversAsSent, LinksAgree}
-use Rattle.base_words.specs.Keys.{KeyAtMost}
-use Rattle.base_words.specs.Lawful.{IsLawful}
-use Rattle.base_words.specs.Picks.{IsRightPick}
-use Rattle.base_words.specs.Runtimes.{virtual_runtime}
-use Rattle.base_words.specs.Sound.{IsSound}
-use Rattle.base_words.specs.Terms.{terms_of}
-use Rattle.base_words.specs.Work.{has_work}
 use Rattle.base_words.proofs.Joining.{joining_is_sound}
 
 -- the first that the outside actor sends to core 0

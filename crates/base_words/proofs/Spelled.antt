@@ -1,23 +1,10 @@
 -- Each note of a lawful journal can be spelled: what it names is within its range.
-use Rattle.std.proofs.Common.{◌≡◌, ℕ, ◌+◌, ◌<◌, ◌≤◌, Bool, true, false, [], ◌∷◌, refl, sym, subst, arith, cond, length, ◌∙◌}
-use Rattle.std.specs.Prelude.{Option, Some, None, is_some, not, ◌==◌, length}
-use Rattle.base_words.specs.Filters.{name_ended}
-use Rattle.base_words.specs.Parks.{parked}
-use Rattle.std.proofs.lemmas.Bool.{and_parts, leb-true, ltb-true, eqb-true}
-use Rattle.base_words.specs.declared.names.JobId.{JobId}
-use Rattle.base_words.specs.declared.note.Note.{Note}
+use Rattle.base_words.proofs.Words.{and_parts, AreSpelledNotes, arith, Bool, cond, created_count, EachNote, entered_count, eqb-true, false, has_bursts, has_work, is_number, is_some, is_told, IsNextDelivered, IsReceived, IsSpelledNote}
+use Rattle.base_words.proofs.Words.{IsTurnEnd, IsTurnOf, JobId, jobs_out, Journal, leb-true, left_count, length, list_told, ltb-true, MayFollow, MayStand, most_queues, name_ended, None, not, Note, number_if, Option, or_else, parked}
+use Rattle.base_words.proofs.Words.{queue_begun_last, queue_created, queue_entered, queue_joined, queue_just_picked, queue_of, refl, refusal, same_name, same_Some, Some, subst, sym, Terms, time_summed, true, ℕ, [], ◌+◌, ◌<◌, ◌==◌, ◌∙◌, ◌∷◌}
+use Rattle.base_words.proofs.Words.{◌≡◌, ◌≤◌}
+use Rattle.std.specs.Prelude.{length}
 use Rattle.base_words.specs.declared.note.Note.TheVariants.{Sent, Took, Back, Answered, Created, SharesSet, Pick, Start, Resume, Yield, Park, Stayed, Woken, Done, Returned, QueueClosed, CoreClosed, Shut, Collected, Redeemed, Detached, Turned}
-use Rattle.std.proofs.lemmas.Option.{same_Some}
-use Rattle.base_words.specs.Bursts.{has_bursts, queue_just_picked, queue_begun_last, time_summed}
-use Rattle.base_words.specs.Commands.{created_count, queue_created, refusal}
-use Rattle.base_words.specs.Journal.{Journal, EachNote, is_told, list_told, or_else}
-use Rattle.base_words.specs.Lawful.{MayFollow, MayStand, IsTurnOf, IsTurnEnd, IsNextDelivered}
-use Rattle.base_words.specs.Limits.{most_queues}
-use Rattle.base_words.specs.Lines.{jobs_out}
-use Rattle.base_words.specs.Names.{same_name, is_number}
-use Rattle.base_words.specs.Spelled.{IsReceived, IsSpelledNote, AreSpelledNotes}
-use Rattle.base_words.specs.Terms.{Terms}
-use Rattle.base_words.specs.Work.{has_work, entered_count, left_count, queue_of, queue_entered, queue_joined, number_if}
 use Rattle.base_words.proofs.Collected.{accepted_own, collected_own, fitting_spelled}
 use Rattle.base_words.proofs.JobsOut.{alone_out, nobody_at_turn, jobs_out-start, jobs_out-resume}
 use Rattle.base_words.proofs.Known.{known_of, first_in_line}

@@ -1,19 +1,11 @@
 -- What is refused, handed back or answered can be spelled.
-use Rattle.std.proofs.Common.{◌≡◌, ℕ, ◌+◌, ◌<◌, inl, inr, Bool, true, false, refl, sym, subst, arith, cond}
-use Rattle.std.specs.Prelude.{Option, Some, None, nat_le}
-use Rattle.std.proofs.lemmas.Bool.{leb-false}
-use Rattle.base_words.specs.declared.order.Answer.{Answer}
+use Rattle.base_words.proofs.Words.{Answer, arith, Bool, closes, cond, core_mode, created_count, false, inl, inr, is_inside, IsAnswer, IsBackReason, IsCreationAnswer, IsReturnReason, job_at, Journal, leb-false, Mode, nat_le, None, Option}
+use Rattle.base_words.proofs.Words.{or_else, Order, queue_mode, Reason, reason_if_closed, reason_if_returning, refl, Some, subst, sym, true, ℕ, ◌+◌, ◌<◌, ◌≡◌}
 use Rattle.base_words.specs.declared.order.Answer.TheVariants as answers
-use Rattle.base_words.specs.declared.order.Mode.{Mode}
 use Rattle.base_words.specs.declared.order.Mode.TheVariants.{Finish, Return}
-use Rattle.base_words.specs.declared.order.Order.{Order}
 use Rattle.base_words.specs.declared.order.Order.TheVariants.{Job, Create, SetShares, Close, CloseCore, Wake}
-use Rattle.base_words.specs.declared.order.Reason.{Reason}
 use Rattle.base_words.specs.declared.order.Reason.TheVariants as why
-use Rattle.base_words.specs.Closing.{core_mode, queue_mode, closes}
-use Rattle.base_words.specs.Commands.{is_inside, job_at, created_count, reason_if_closed, reason_if_returning, IsAnswer, IsCreationAnswer}
-use Rattle.base_words.specs.Journal.{Journal, or_else}
-use Rattle.base_words.specs.Spelled.{IsBackReason, IsReturnReason, IsSpelledAnswer}
+use Rattle.base_words.specs.Spelled.{IsSpelledAnswer}
 
 -- a delivery refuses a job for a reason of its own
 pub back_reason : (there : Bool) (mode core : Option Mode) (reason : Reason) →

@@ -1,18 +1,7 @@
 -- In a lawful journal who is out or parked has started, and who started had entered.
-use Rattle.std.proofs.Common.{◌≡◌, ℕ, inl, inr, true, false, [], ◌∷◌, sym, ◌∙◌, subst}
-use Rattle.std.specs.Prelude.{Some, is_some}
-use Rattle.std.proofs.lemmas.Bool.{or_cases, or_left, or_right, true≢false, false_from_ne_true}
-use Rattle.base_words.specs.declared.names.JobId.{JobId}
-use Rattle.base_words.specs.declared.note.Note.{Note}
+use Rattle.base_words.proofs.Words.{EachNote, false, false_from_ne_true, inl, inr, is_name, is_some, is_told, IsNextDelivered, JobId, jobs_out, Journal, MayFollow, MayStand, name_polled, name_settled, name_started, names_but_for, Note}
+use Rattle.base_words.proofs.Words.{or_cases, or_else, or_left, or_right, parked, queue_of, same_name, Some, subst, sym, Terms, true, true≢false, ℕ, [], ◌∙◌, ◌∷◌, ◌≡◌}
 use Rattle.base_words.specs.declared.note.Note.TheVariants.{Start, Resume}
-use Rattle.base_words.specs.Filters.{name_started}
-use Rattle.base_words.specs.Journal.{Journal, EachNote, is_told, or_else}
-use Rattle.base_words.specs.Lawful.{MayFollow, MayStand, IsNextDelivered}
-use Rattle.base_words.specs.Lines.{jobs_out, name_polled, name_settled, names_but_for}
-use Rattle.base_words.specs.Names.{same_name, is_name}
-use Rattle.base_words.specs.Parks.{parked}
-use Rattle.base_words.specs.Work.{queue_of}
-use Rattle.base_words.specs.Terms.{Terms}
 use Rattle.base_words.proofs.JobsOut.{alone_out}
 use Rattle.base_words.proofs.Known.{Known, known_of, queue_stays, first_in_line, not_old, parking_new}
 use Rattle.base_words.proofs.Parks.{parked_parts, among-still_parked}

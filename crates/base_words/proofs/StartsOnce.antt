@@ -1,17 +1,8 @@
 -- In a lawful journal each job that starts has entered, has not ended, and starts once.
-use Rattle.std.proofs.Common.{◌≡◌, ℕ, Bool, true, false, [], ◌∷◌, refl, sym, ◌∙◌, ap, subst, cond}
-use Rattle.std.specs.Prelude.{Option, Some, None, is_some}
-use Rattle.base_words.specs.declared.names.JobId.{JobId}
-use Rattle.base_words.specs.declared.note.Note.{Note}
+use Rattle.base_words.proofs.Words.{ap, Assembly, Bool, cond, EachNote, false, is_some, IsAcceptedInside, IsAcceptedJob, IsTurnOf, JobId, Journal, MayFollow, MayStand, None, Note, Option, or_else, order_of, queue_entered, queue_of, refl}
+use Rattle.base_words.proofs.Words.{same_name, Some, StandsInOrder, StartsRight, subst, sym, Terms, true, ℕ, [], ◌∙◌, ◌∷◌, ◌≡◌}
 use Rattle.base_words.specs.declared.note.Note.TheVariants.{Took, Start, Resume}
-use Rattle.base_words.specs.Assembly.{Assembly, order_of, IsAcceptedJob}
-use Rattle.base_words.specs.Clauses.{StartsRight, StandsInOrder, IsAcceptedInside}
-use Rattle.base_words.specs.Journal.{Journal, EachNote, or_else}
-use Rattle.base_words.specs.Lawful.{MayFollow, MayStand, IsTurnOf}
-use Rattle.base_words.specs.Names.{same_name}
-use Rattle.base_words.specs.Work.{queue_of, queue_entered}
 use Rattle.base_words.specs.declared.order.Order.TheVariants.{Job}
-use Rattle.base_words.specs.Terms.{Terms}
 use Rattle.base_words.proofs.Known.{IsInside, known_of, first_in_line}
 use Rattle.base_words.proofs.NameLemmas.{one_name}
 

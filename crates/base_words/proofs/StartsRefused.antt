@@ -1,6 +1,5 @@
 -- Each bad start breaks the first clause.
-use Rattle.std.proofs.Common.{arith}
-use Rattle.base_words.specs.BadStarts.{StartsAreRefused}
+use Rattle.base_words.proofs.Words.{arith, StartsAreRefused}
 
 pub starts_refused : StartsAreRefused
 starts_refused = record {

@@ -1,13 +1,7 @@
 -- Each bad step breaks the law of its note.
-use Rattle.std.proofs.Common.{◌≡◌, ℕ, ◌<◌, ◌≤◌, Bool, true, false, refl, sym, ◌∙◌, ap, arith, cond}
-use Rattle.std.specs.Prelude.{Some, None, nat_le}
-use Rattle.std.proofs.lemmas.Option.{same_Some}
-use Rattle.base_words.specs.declared.names.JobId.{JobId}
+use Rattle.base_words.proofs.Words.{ap, arith, Bool, cond, false, IsTurnOf, JobId, Journal, nat_le, None, refl, same_Some, Some, StepsAreRefused, sym, true, ℕ, ◌<◌, ◌∙◌, ◌≡◌, ◌≤◌}
 use Rattle.base_words.specs.declared.order.Reason.TheVariants as why
 use Rattle.base_words.specs.Clauses.{queue_just_picked}
-use Rattle.base_words.specs.Journal.{Journal}
-use Rattle.base_words.specs.Lawful.{IsTurnOf}
-use Rattle.base_words.specs.StepsRefused.{StepsAreRefused}
 use Rattle.base_words.proofs.NameLemmas.{first_number}
 use Rattle.base_words.proofs.OpenTurns.{turn_of_pick}
 

@@ -1,6 +1,5 @@
 -- What holds of each place of a table after one place was written.
-use Rattle.std.proofs.Common.{◌≡◌, ℕ, ◌<◌, List, length, refl, sym, subst, zero, suc, get_or, set, replicate, ◌⊎◌, inl, inr, get_or-set_other, get_or-set_same}
-use Rattle.std.proofs.lemmas.Bool.{cases_eq}
+use Rattle.base_words.proofs.Words.{cases_eq, get_or, get_or-set_other, get_or-set_same, inl, inr, length, List, refl, replicate, set, subst, suc, sym, zero, ℕ, ◌<◌, ◌≡◌, ◌⊎◌}
 
 -- a new item at one place, and the others as they were
 pub each_next : {A : Type 0} (P Q : ℕ → A → Type 0) (items : List A) (index : ℕ) (new default : A) → index < length items →

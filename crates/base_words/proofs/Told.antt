@@ -1,9 +1,6 @@
 -- How long the lists are that a journal tells.
-use Rattle.std.proofs.Common.{◌≡◌, ◌+◌, ◌≤◌, Bool, true, false, List, [], ◌∷◌, ◌++◌, length, refl, sym, ◌∙◌, ap, arith, cond}
-use Rattle.std.specs.Prelude.{Option, Some, None, is_some}
+use Rattle.base_words.proofs.Words.{ap, arith, Bool, cond, false, is_some, length, List, None, number_if, Option, refl, Some, sym, true, with_all, with_last, [], ◌++◌, ◌+◌, ◌∙◌, ◌∷◌, ◌≡◌, ◌≤◌}
 use Rattle.std.proofs.lemmas.List.{append-nil, length-append}
-use Rattle.base_words.specs.Journal.{with_last, with_all}
-use Rattle.base_words.specs.Work.{number_if}
 
 -- one more, if one comes
 pub length-with_last : {A : Type 0} (items : List A) (more : Option A) → length (with_last items more) ≡ length items + number_if (is_some more)

@@ -1,10 +1,6 @@
 -- The time of a turn, poll by poll: where each poll and each sum is cut at what counts, the time is the one of all polls.
-use Rattle.std.proofs.Common.{◌≡◌, ℕ, ◌+◌, ◌-◌, ◌^◌, true, false, ◌∷◌, arith}
-use Rattle.std.specs.Prelude.{min}
-use Rattle.base_words.specs.declared.note.Note.{Note}
-use Rattle.base_words.specs.Bursts.{parts_turns, polls_in_turn, poll_count, time_in_turn, time_of_poll}
-use Rattle.base_words.specs.Journal.{Journal}
-use Rattle.base_words.specs.Polls.{poll_settled}
+use Rattle.base_words.proofs.Words.{arith, false, Journal, min, Note, parts_turns, poll_count, poll_settled, polls_in_turn, time_in_turn, time_of_poll, true, ℕ, ◌+◌, ◌-◌, ◌∷◌, ◌≡◌}
+use Rattle.std.proofs.Common.{◌^◌}
 
 -- a sum of cut summands that is cut is the sum that is cut
 pub min-min_sum : (first second most : ℕ) → min (min first most + min second most) most ≡ min (first + second) most

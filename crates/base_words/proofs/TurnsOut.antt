@@ -1,15 +1,7 @@
 -- The job that is out is of the turn that was begun last.
-use Rattle.std.proofs.Common.{◌≡◌, ℕ, inl, inr, Bool, true, false, [], ◌∷◌, refl, sym, ◌∙◌, ap, cond}
-use Rattle.std.specs.Prelude.{Some, None}
-use Rattle.base_words.specs.declared.names.JobId.{JobId}
-use Rattle.base_words.specs.declared.note.Note.{Note}
+use Rattle.base_words.proofs.Words.{ap, Bool, cond, EachNote, false, GoesOn, has_bursts, inl, inr, IsTurnOf, JobId, jobs_out, Journal, MayFollow, MayStand, None, Note, or_else, queue_begun_last, queue_in_turn, queue_just_picked, queue_of}
+use Rattle.base_words.proofs.Words.{queue_out, refl, Some, sym, Terms, true, ℕ, [], ◌∙◌, ◌∷◌, ◌≡◌}
 use Rattle.base_words.specs.declared.note.Note.TheVariants.{Pick, Start, Resume, Yield, Park, Stayed, Done, Turned}
-use Rattle.base_words.specs.Bursts.{has_bursts, queue_just_picked, queue_begun_last, queue_in_turn}
-use Rattle.base_words.specs.Journal.{Journal, EachNote, or_else}
-use Rattle.base_words.specs.Lawful.{MayFollow, MayStand, IsTurnOf, GoesOn}
-use Rattle.base_words.specs.Lines.{jobs_out, queue_out}
-use Rattle.base_words.specs.Terms.{Terms}
-use Rattle.base_words.specs.Work.{queue_of}
 use Rattle.base_words.proofs.Counts.{queue_out-alone, queue_out-stays, queue_out-nobody}
 use Rattle.base_words.proofs.JobsOut.{nobody_at_turn, jobs_out-start, jobs_out-resume, jobs_out-yield, jobs_out-park, jobs_out-stayed, jobs_out-done}
 use Rattle.base_words.proofs.Known.{known_of, first_in_line}

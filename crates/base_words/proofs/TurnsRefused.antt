@@ -1,12 +1,7 @@
 -- Each bad turn breaks the law of its note.
-use Rattle.std.proofs.Common.{◌≡◌, ℕ, zero, suc, ◌<◌, ◌≤◌, refl, ap, arith}
+use Rattle.base_words.proofs.Words.{ap, arith, core_terms, MayStand, most_turns, polled_more, refl, suc, turns, TurnsAreRefused, zero, ℕ, ◌<◌, ◌≡◌, ◌≤◌}
 use Rattle.std.specs.Prelude.{◌-◌}
 use Rattle.base_words.specs.declared.note.Note.TheVariants.{Pick}
-use Rattle.base_words.specs.BadJournals.{core_terms}
-use Rattle.base_words.specs.BadTurns.{polled_more, TurnsAreRefused}
-use Rattle.base_words.specs.Lawful.{MayStand}
-use Rattle.base_words.specs.Limits.{most_turns}
-use Rattle.base_words.specs.Picks.{turns}
 use Rattle.base_words.proofs.NameLemmas.{first_number}
 use Rattle.base_words.proofs.StepsRefused.{its_queue}
 

@@ -1,10 +1,5 @@
 -- What stands first under a name, where a list grows at its end.
-use Rattle.std.proofs.Common.{◌≡◌, ◌⊎◌, inl, inr, Bool, true, false, List, [], ◌∷◌, ◌++◌, refl, sym, subst, cond}
-use Rattle.std.specs.Prelude.{◌||◌, Option, Some, None}
-use Rattle.base_words.specs.declared.names.JobId.{JobId}
-use Rattle.base_words.specs.Assembly.{IsPrefix, names_of, first_under}
-use Rattle.base_words.specs.Journal.{with_last}
-use Rattle.base_words.specs.Names.{same_name}
+use Rattle.base_words.proofs.Words.{Bool, cond, false, first_under, inl, inr, IsPrefix, JobId, List, names_of, None, Option, refl, same_name, Some, subst, sym, true, with_last, [], ◌++◌, ◌||◌, ◌∷◌, ◌≡◌, ◌⊎◌}
 use Rattle.base_words.proofs.NameLemmas.{among}
 
 module _ {A : Type 0} (name : JobId) where

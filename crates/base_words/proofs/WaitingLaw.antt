@@ -1,19 +1,10 @@
 -- In a lawful journal the jobs that wait are those of the queue's line and the parked ones.
-use Rattle.std.proofs.Common.{◌≡◌, ℕ, ◌+◌, [], ◌∷◌, length, refl, ap, arith}
-use Rattle.base_words.specs.declared.names.JobId.{JobId}
-use Rattle.base_words.specs.declared.note.Note.{Note}
+use Rattle.base_words.proofs.Words.{ap, arith, begun_count, EachNote, is_number, IsTurnOf, JobId, jobs_out, Journal, length, line, MayFollow, MayStand, Note, number_if, parked, queue_of, queue_of_first, queue_out, refl, settled_count}
+use Rattle.base_words.proofs.Words.{Terms, waiting_count, ℕ, [], ◌+◌, ◌∷◌, ◌≡◌}
 use Rattle.base_words.specs.declared.note.Note.TheVariants.{Start, Resume, Yield, Park, Stayed, Done}
-use Rattle.base_words.specs.Journal.{Journal, EachNote}
-use Rattle.base_words.specs.Lawful.{MayFollow, MayStand, IsTurnOf}
-use Rattle.base_words.specs.Lines.{line, jobs_out, queue_of_first, queue_out}
-use Rattle.base_words.specs.Names.{is_number}
-use Rattle.base_words.specs.Parks.{parked}
-use Rattle.base_words.specs.Terms.{Terms}
-use Rattle.base_words.specs.Work.{queue_of, number_if}
 use Rattle.base_words.proofs.Counts.{queue_out-alone, queue_out-stays, counts_agree}
 use Rattle.base_words.proofs.JobsOut.{nobody_at_turn, jobs_out-start, jobs_out-resume, names_but-alone}
 use Rattle.base_words.proofs.Known.{known_of}
-use Rattle.base_words.specs.Sums.{begun_count, settled_count, waiting_count}
 
 module _ {T : Type 0} (terms : Terms) (queue : ℕ) where
   -- a poll that was begun is settled, or its job is out

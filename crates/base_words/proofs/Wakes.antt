@@ -1,18 +1,7 @@
 -- Which wakes are kept in a lawful journal: none of a job that never entered, and none of a parked one.
-use Rattle.std.proofs.Common.{◌≡◌, ℕ, inl, inr, Bool, true, false, [], ◌∷◌, refl, sym, subst, cond}
-use Rattle.std.specs.Prelude.{Option, Some, None, is_some, unwrap_or, not}
-use Rattle.std.proofs.lemmas.Bool.{and_parts, or_parts, true≢false}
-use Rattle.base_words.specs.declared.names.JobId.{JobId}
-use Rattle.base_words.specs.declared.note.Note.{Note}
+use Rattle.base_words.proofs.Words.{among, and_parts, Bool, cond, EachNote, false, inl, inr, is_name, is_number, is_parked, is_some, is_told, is_wake_kept, JobId, Journal, kept_unless, MayFollow, MayStand, name_ended, name_parking}
+use Rattle.base_words.proofs.Words.{name_woken, None, not, Note, Option, or_else, or_parts, parked, queue_entered, queue_of, refl, return_reason_of, same_name, Some, subst, sym, Terms, true, true≢false, unwrap_or, ℕ, [], ◌∷◌, ◌≡◌}
 use Rattle.base_words.specs.declared.note.Note.TheVariants.{Woken, Park, Stayed}
-use Rattle.base_words.specs.Commands.{return_reason_of}
-use Rattle.base_words.specs.Filters.{name_ended}
-use Rattle.base_words.specs.Journal.{Journal, EachNote, is_told, or_else}
-use Rattle.base_words.specs.Lawful.{MayFollow, MayStand}
-use Rattle.base_words.specs.Names.{same_name, is_name, is_number, among}
-use Rattle.base_words.specs.Parks.{parked, is_parked, is_wake_kept, kept_unless, name_woken, name_parking}
-use Rattle.base_words.specs.Terms.{Terms}
-use Rattle.base_words.specs.Work.{queue_of, queue_entered}
 use Rattle.base_words.proofs.NameLemmas.{one_name, same_as_itself}
 use Rattle.base_words.proofs.Parks.{parked_parts, among-still_parked}
 

@@ -1,18 +1,10 @@
 -- Each bad end of a park, and each bad wake, breaks the law of its note.
-use Rattle.std.proofs.Common.{◌≡◌, ℕ, inl, inr, ◌<◌, refl, sym, ap, subst, arith}
-use Rattle.std.specs.Prelude.{Option, Some, ◌∷◌}
-use Rattle.std.proofs.lemmas.Option.{same_Some}
-use Rattle.base_words.specs.declared.note.Note.{Note}
+use Rattle.base_words.proofs.Words.{ap, arith, asleep, effect_note, inl, inr, IsAnswer, KeyAtMost, Note, Option, Order, refl, same_Some, Some, submission, subst, sym, WakesAreRefused, ℕ, ◌<◌, ◌≡◌}
+use Rattle.std.specs.Prelude.{◌∷◌}
 use Rattle.base_words.specs.declared.note.Note.TheVariants as notes
 use Rattle.base_words.specs.declared.order.Answer.TheVariants as answers
 use Rattle.base_words.specs.declared.order.Mode.TheVariants.{Finish}
-use Rattle.base_words.specs.declared.order.Order.{Order}
 use Rattle.base_words.specs.declared.order.Order.TheVariants.{Wake}
-use Rattle.base_words.specs.BadJournals.{submission}
-use Rattle.base_words.specs.Asleep.{asleep}
-use Rattle.base_words.specs.BadWakes.{WakesAreRefused}
-use Rattle.base_words.specs.Commands.{IsAnswer, effect_note}
-use Rattle.base_words.specs.Keys.{KeyAtMost}
 use Rattle.base_words.proofs.NameLemmas.{first_number}
 use Rattle.base_words.proofs.StepsRefused.{its_queue}
 

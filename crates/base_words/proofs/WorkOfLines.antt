@@ -1,19 +1,6 @@
 -- A queue has work exactly where its line is not empty or its job is out.
-use Rattle.std.proofs.Common.{◌≡◌, ℕ, ◌+◌, Bool, true, false, List, [], ◌∷◌, length, refl, sym, ◌∙◌, arith}
-use Rattle.std.specs.Prelude.{Some, nat_lt, None}
-use Rattle.std.proofs.lemmas.Bool.{ltb-true, lt-ltb, ltb-false, le-ltb, eq-eqb, true≢false}
-use Rattle.base_words.specs.declared.names.JobId.{JobId}
-use Rattle.base_words.specs.Bursts.{queue_in_turn}
-use Rattle.base_words.specs.Journal.{Journal, EachNote}
-use Rattle.base_words.specs.Lawful.{MayStand}
-use Rattle.base_words.specs.Lines.{line, jobs_out, queue_out}
-use Rattle.base_words.specs.Keys.{KeyAtMost}
-use Rattle.base_words.specs.Parks.{parked}
-use Rattle.base_words.specs.Picks.{IsRightPick}
-use Rattle.base_words.specs.Runtimes.{virtual_runtime}
-use Rattle.base_words.specs.Names.{is_number}
-use Rattle.base_words.specs.Work.{has_work, left_count, entered_count, queue_of, number_if}
-use Rattle.base_words.specs.Terms.{Terms}
+use Rattle.base_words.proofs.Words.{arith, Bool, EachNote, entered_count, eq-eqb, false, has_work, is_number, IsRightPick, JobId, jobs_out, Journal, KeyAtMost, le-ltb, left_count, length, line, List, lt-ltb, ltb-false, ltb-true, MayStand}
+use Rattle.base_words.proofs.Words.{nat_lt, None, number_if, parked, queue_in_turn, queue_of, queue_out, refl, Some, sym, Terms, true, true≢false, virtual_runtime, ℕ, [], ◌+◌, ◌∙◌, ◌∷◌, ◌≡◌}
 use Rattle.base_words.proofs.Counts.{counts_agree, queue_out-alone}
 
 -- there is more than what left or is parked where something is inside besides

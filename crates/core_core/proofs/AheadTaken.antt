@@ -1,16 +1,8 @@
 -- The job that is told ahead may be picked: there is a core to which the pick comes. A caller that notes the pick before the turn cites this.
-use Rattle.std.proofs.Common.{◌≡◌, inl, inr, ℕ, ◌+◌, ◌<◌, Bool, max, Some, Ok, refl, sym, ap, ◌∙◌, arith}
-use Rattle.std.specs.Prelude.{◌⊎◌, slice_set, slice_index_or}
-use Rattle.std.proofs.lemmas.Bool.{cases_eq}
-use Rattle.std.proofs.lemmas.List.{length-set, get_or-set_same, get_or-set_other}
-use Rattle.std.proofs.lemmas.List.Sums.{sum_by-set}
-use Rattle.base_words.specs.declared.names.JobId.{JobId}
-use Rattle.core_queues.specs.Queues.{Line, QueueView, QueuesView, no_queue, held_in, queue_count, waiting_of, parked_of, shares_of, mode_of, ChangesLine}
-use Rattle.core_core.specs.State.{CoreView, tally_of, runtime_of}
-use Rattle.core_core.specs.Bursts.{begun, polled_again}
-use Rattle.core_core.specs.Further.{Follows, IsAheadInTurn, follow_notes}
-use Rattle.core_core.specs.Turns.{TakesOut, Picks}
-use Rattle.core_core.specs.Whole.{IsAhead, goes_out, pick_notes}
+use Rattle.core_core.proofs.Names.{ap, arith, begun, Bool, cases_eq, ChangesLine, CoreView, follow_notes, Follows, get_or-set_other, get_or-set_same, goes_out, held_in, inl, inr, IsAhead, IsAheadInTurn, JobId, Line, max, mode_of, no_queue}
+use Rattle.core_core.proofs.Names.{Ok, parked_of, pick_notes, Picks, polled_again, queue_count, QueuesView, QueueView, refl, runtime_of, shares_of, slice_index_or, slice_set, Some, sum_by-set, sym, TakesOut, tally_of, waiting_of, ℕ, ◌+◌}
+use Rattle.core_core.proofs.Names.{◌<◌, ◌∙◌, ◌≡◌, ◌⊎◌}
+use Rattle.std.proofs.lemmas.List.{length-set}
 use Rattle.core_core.proofs.Entries.{is_any-from_some}
 use Rattle.core_core.proofs.FurtherTurn.{follows_ahead}
 use Rattle.core_core.proofs.Picking.{exists_if_waiting}

@@ -1,13 +1,6 @@
 -- Which senders are awaited.
-use Rattle.std.proofs.Common.{◌≡◌, ℕ, zero, suc, ◌<◌, ◌≤◌, Bool, true, false, List, [], ◌∷◌, length, map, set, get_or, Option, Some, None, refl, sym, ap, ◌∙◌, arith}
-use Rattle.std.specs.Prelude.{not, ◌==◌, slice_set, replicate}
-use Rattle.std.proofs.lemmas.Bool.{eqb-true}
-use Rattle.std.proofs.lemmas.List.{map-set, set-get_or, length-map}
-use Rattle.std.proofs.lemmas.List.Sums.{sum_by-cons}
-use Rattle.base_words.specs.Names.{is_number}
-use Rattle.base_words.specs.Work.{number_if}
-use Rattle.core_core.specs.declared.senders.Sender.{Sender}
-use Rattle.core_core.specs.Senders.{SendersView, AreThrough, senders_view, is_awaited, awaited_count}
+use Rattle.core_core.proofs.Names.{ap, AreThrough, arith, awaited_count, Bool, eqb-true, false, get_or, is_awaited, is_number, length, length-map, List, map, map-set, None, not, number_if, Option, refl, replicate, Sender, senders_view}
+use Rattle.core_core.proofs.Names.{SendersView, set, set-get_or, slice_set, Some, suc, sum_by-cons, sym, true, zero, ℕ, [], ◌<◌, ◌==◌, ◌∙◌, ◌∷◌, ◌≡◌, ◌≤◌}
 use Rattle.core_core.proofs.Listed.{eqb-self}
 
 -- a sender is awaited unless its gate is shut at what was delivered

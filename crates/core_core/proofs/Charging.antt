@@ -1,14 +1,6 @@
 -- The tally that a charge leaves, in the words of the contract.
-use Rattle.std.proofs.Common.{◌≡◌, ℕ, ◌+◌, ◌-◌, ◌<◌, ◌^◌, min, List, length, Option, None, sym, ap, ◌∙◌, arith}
-use Rattle.std.specs.Prelude.{slice_index_or, slice_set}
-use Rattle.std.proofs.lemmas.List.{get_or_read}
-use Rattle.base_words.specs.Charge.{charge, clamped}
-use Rattle.core_core.specs.declared.bursts.Bursts.{Bursts}
-use Rattle.core_core.specs.declared.bursts.OpenTurn.{OpenTurn}
-use Rattle.core_core.specs.declared.tally.Tally.{Tally}
-use Rattle.core_core.specs.Bursts.{lasted, settled_tally}
-use Rattle.core_core.specs.State.{no_tally}
-use Rattle.core_core.specs.Inside.{FitsTurns}
+use Rattle.core_core.proofs.Names.{ap, arith, Bursts, charge, clamped, FitsTurns, get_or_read, lasted, length, List, min, no_tally, None, OpenTurn, Option, settled_tally, slice_index_or, slice_set, sym, Tally, ℕ, ◌+◌, ◌-◌, ◌<◌, ◌^◌, ◌∙◌}
+use Rattle.core_core.proofs.Names.{◌≡◌}
 use Rattle.core_core.proofs.Fits.{charged_fits}
 
 -- a tally after a poll

@@ -1,32 +1,13 @@
 -- What refuses a job, what hands it back, and when a core is drained.
-use Rattle.std.proofs.Common.{◌≡◌, ℕ, zero, suc, ◌+◌, ◌<◌, Bool, true, false, cond, List, [], ◌∷◌, length, max, Option, Some, None, refl, sym, ap, ◌∙◌, subst, arith}
-use Rattle.std.specs.Prelude.{◌||◌, nat_lt, is_some, slice_index_or, slice_set}
-use Rattle.std.proofs.lemmas.Bool.{ltb-true, true≢false}
-use Rattle.std.proofs.lemmas.List.{get_or-set_same}
-use Rattle.base_words.specs.declared.names.Key.{Key}
-use Rattle.base_words.specs.declared.names.JobId.{JobId}
-use Rattle.base_words.specs.declared.order.Mode.{Mode}
-use Rattle.base_words.specs.declared.order.Reason.{Reason}
+use Rattle.core_core.proofs.Names.{ap, AreThrough, arith, Bool, ChangesLine, cond, CoreView, false, get_or-set_same, HandsBack, held_count, held_count_all_empty, is_any, is_number, is_some, is_working, IsCore, IsDrained, JobId, JobOut}
+use Rattle.core_core.proofs.Names.{KeepsCounts, Key, length, List, ltb-true, max, Meaning, Mode, mode_of, nat_lt, no_tally, None, number_if, Option, or_else, out_count, parked_of_none_held, queue_count, queue_out, Reason, reason_if_closed}
+use Rattle.core_core.proofs.Names.{reason_if_returning, refl, refusal, return_reason, ReturnsOut, runtime_of, slice_index_or, slice_set, Some, stays, subst, suc, sym, TakesOut, Tally, tally_of, true, true≢false, waiting_of}
+use Rattle.core_core.proofs.Names.{waiting_of_none_held, zero, ℕ, [], ◌+◌, ◌<◌, ◌||◌, ◌∙◌, ◌∷◌, ◌≡◌}
 use Rattle.base_words.specs.declared.order.Reason.TheVariants as why
-use Rattle.base_words.specs.Journal.{or_else}
-use Rattle.base_words.specs.Names.{is_number}
-use Rattle.base_words.specs.Work.{number_if}
-use Rattle.base_words.specs.Commands.{reason_if_closed, reason_if_returning}
-use Rattle.core_queues.specs.Queues.{queue_count, mode_of, waiting_of, held_count, ChangesLine}
-use Rattle.core_queues.proofs.QueuesLemmas.{waiting_of_none_held, parked_of_none_held, held_count_all_empty}
-use Rattle.core_core.specs.declared.tally.Tally.{Tally}
-use Rattle.core_core.specs.Senders.{AreThrough}
-use Rattle.core_core.specs.State.{CoreView, JobOut, no_tally, tally_of, is_any, queue_out, is_working, runtime_of, out_count}
-use Rattle.core_core.specs.Closing.{refusal, return_reason, IsDrained}
-use Rattle.core_core.specs.Settling.{stays}
-use Rattle.core_core.specs.Turns.{TakesOut, HandsBack}
-use Rattle.core_core.specs.Steps.{ReturnsOut}
-use Rattle.core_core.specs.Inside.{IsCore, KeepsCounts}
 use Rattle.core_core.proofs.Entries.{none_from_is_any}
 use Rattle.core_core.proofs.Listed.{eqb-self}
 use Rattle.core_core.proofs.Parts.{both_false}
 use Rattle.core_core.proofs.Turning.{KeepsTurn-same}
-use Rattle.base_jobs.specs.Meanings.{Meaning}
 
 set-again : {X : Type 0} (items : List X) (place : ℕ) (first last : X) → slice_set (slice_set items place first) place last ≡ slice_set items place last
 set-again [] place first last = refl

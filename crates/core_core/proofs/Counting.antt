@@ -1,16 +1,8 @@
 -- The counts inside a core after each step.
-use Rattle.std.proofs.Common.{◌≡◌, ℕ, suc, zero, ◌+◌, ◌<◌, ◌≤◌, List, [], ◌∷◌, ◌++◌, length, Option, Some, None, refl, sym, ap, ◌∙◌, subst, arith, length-append}
-use Rattle.std.specs.Prelude.{true, false, ◌-◌, IfSome, is_some, slice_index_or}
-use Rattle.base_words.specs.declared.names.JobId.{JobId}
-use Rattle.base_words.specs.declared.names.Key.{Key}
-use Rattle.base_words.specs.declared.order.Mode.{Mode}
-use Rattle.base_words.specs.Work.{number_if}
-use Rattle.core_queues.specs.Queues.{Line, Marks, QueuesView, waiting_of, parked_of, queue_count, held_count, ChangesLine, ChangesShares, ChangesMode, AddsQueue, IsWithinLimits}
-use Rattle.core_queues.specs.Parks.{ChangesParks}
-use Rattle.core_core.specs.State.{CoreView, JobOut, runtime_of, out_count}
-use Rattle.core_core.specs.Bursts.{queue_held}
-use Rattle.core_core.specs.Inside.{job_out, KeepsCounts, IsListed}
-use Rattle.core_core.specs.declared.out.Out.{Out}
+use Rattle.core_core.proofs.Names.{AddsQueue, ap, arith, ChangesLine, ChangesMode, ChangesParks, ChangesShares, CoreView, held_count, IfSome, is_some, IsListed, IsWithinLimits, job_out, JobId, JobOut, KeepsCounts, Key, length}
+use Rattle.core_core.proofs.Names.{length-append, Line, List, Marks, Mode, None, number_if, Option, Out, out_count, parked_of, queue_count, queue_held, QueuesView, refl, runtime_of, slice_index_or, Some, subst, suc, sym, waiting_of, zero}
+use Rattle.core_core.proofs.Names.{ℕ, [], ◌++◌, ◌+◌, ◌<◌, ◌∙◌, ◌∷◌, ◌≡◌, ◌≤◌}
+use Rattle.std.specs.Prelude.{true, false, ◌-◌}
 use Rattle.core_core.proofs.Entries.{may_run-same, entry_of-same, IsListed-kept}
 
 -- one more element, which is the default

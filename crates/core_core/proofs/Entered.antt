@@ -1,20 +1,7 @@
 -- What holds inside a core as a job enters a queue without work.
-use Rattle.std.proofs.Common.{◌≡◌, ℕ, ◌+◌, ◌<◌, Bool, true, false, cond, List, [], ◌∷◌, ◌++◌, length, refl, sym, ap, ◌∙◌, arith, length-set}
-use Rattle.std.specs.Prelude.{not, slice_index_or, slice_set}
-use Rattle.std.proofs.lemmas.List.{set-get_or}
-use Rattle.std.proofs.lemmas.List.Elements.{All-set}
-use Rattle.base_words.specs.Charge.{placed}
-use Rattle.base_words.specs.declared.names.JobId.{JobId}
-use Rattle.base_words.specs.declared.names.Key.{Key}
-use Rattle.base_words.specs.Names.{is_number}
-use Rattle.base_jobs.specs.Meanings.{Meaning}
-use Rattle.base_jobs.specs.Ready.{IsReady}
-use Rattle.core_queues.specs.Queues.{Marks, QueuesView, waiting_of, queue_count, ChangesLine, IsWithinLimits}
-use Rattle.core_core.specs.declared.tally.Tally.{Tally}
-use Rattle.core_core.specs.State.{CoreView, no_tally, is_any, is_working, queue_out, tally_of, entry_runtime}
-use Rattle.core_core.specs.Bursts.{queue_open}
-use Rattle.core_core.specs.Inside.{IsCore, FitsTurns, unsettled_count}
-use Rattle.core_core.specs.Relisted.{keys_after, slips_after}
+use Rattle.core_core.proofs.Names.{All-set, ap, arith, Bool, ChangesLine, cond, CoreView, entry_runtime, false, FitsTurns, is_any, is_number, is_working, IsCore, IsReady, IsWithinLimits, JobId, Key, keys_after, length, length-set, List}
+use Rattle.core_core.proofs.Names.{Marks, Meaning, no_tally, not, placed, queue_count, queue_open, queue_out, QueuesView, refl, set-get_or, slice_index_or, slice_set, slips_after, sym, Tally, tally_of, true, unsettled_count, waiting_of, ℕ}
+use Rattle.core_core.proofs.Names.{[], ◌++◌, ◌+◌, ◌<◌, ◌∙◌, ◌∷◌, ◌≡◌}
 use Rattle.core_core.proofs.Charging.{tally_read}
 use Rattle.core_core.proofs.Entries.{is_any-push, runtime_of-set_other, IsListed-held}
 use Rattle.core_core.proofs.Held.{not_held}

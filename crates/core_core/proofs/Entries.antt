@@ -1,16 +1,6 @@
 -- The keys that a core keeps are those of the queues that may be picked, after each step.
-use Rattle.std.proofs.Common.{◌≡◌, ◌≢◌, inl, inr, ℕ, ◌<◌, Bool, true, false, cond, List, [], ◌∷◌, ◌++◌, length, Option, Some, None, refl, sym, ap, ◌∙◌}
-use Rattle.std.specs.Prelude.{◌⊎◌, ◌&&◌, not, slice_index_or, slice_set}
-use Rattle.std.proofs.lemmas.Bool.{cases_eq}
-use Rattle.std.proofs.lemmas.List.{get_or-set_other, get_or-set_same}
-use Rattle.base_words.specs.declared.names.Key.{Key}
-use Rattle.base_words.specs.Names.{is_number}
-use Rattle.core_queues.specs.Queues.{waiting_of}
-use Rattle.core_core.specs.declared.tally.Tally.{Tally}
-use Rattle.core_core.specs.State.{CoreView, no_tally, is_any, runtime_of}
-use Rattle.core_core.specs.Bursts.{queue_held}
-use Rattle.core_timeline.specs.Rising.{inserted, LacksQueue}
-use Rattle.core_core.specs.Inside.{runtime_listed, may_run, IsListed}
+use Rattle.core_core.proofs.Names.{ap, Bool, cases_eq, cond, CoreView, false, get_or-set_other, get_or-set_same, inl, inr, inserted, is_any, is_number, IsListed, Key, LacksQueue, length, List, may_run, no_tally, None, not, Option}
+use Rattle.core_core.proofs.Names.{queue_held, refl, runtime_listed, runtime_of, slice_index_or, slice_set, Some, sym, Tally, true, waiting_of, ℕ, [], ◌&&◌, ◌++◌, ◌<◌, ◌∙◌, ◌∷◌, ◌≡◌, ◌≢◌, ◌⊎◌}
 use Rattle.core_core.proofs.Listed.{LacksQueue-from_none, listed-inserted_same, listed-inserted_other, none_from_lacking, listed-later}
 
 pub is_any-push : {A : Type 0} (line : List A) (more : A) → is_any (line ++ more ∷ []) ≡ true

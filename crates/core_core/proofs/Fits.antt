@@ -1,11 +1,6 @@
 -- No count of a core outgrows its turns.
-use Rattle.std.proofs.Common.{◌≡◌, inl, inr, ℕ, ◌+◌, ◌*◌, ◌^◌, ◌<◌, ◌≤◌, Bool, true, false, cond, length, max, arith}
-use Rattle.std.proofs.lemmas.Bool.{cases_lt}
-use Rattle.std.proofs.lemmas.List.{get_or_past}
-use Rattle.std.proofs.lemmas.List.Elements.{All-get_or}
-use Rattle.core_core.specs.declared.tally.Tally.{Tally}
-use Rattle.core_core.specs.State.{CoreView, no_tally, tally_of, IsBounded}
-use Rattle.core_core.specs.Inside.{FitsTurns, IsWithinTurns, unsettled_count}
+use Rattle.core_core.proofs.Names.{All-get_or, arith, Bool, cases_lt, cond, CoreView, false, FitsTurns, get_or_past, inl, inr, IsBounded, IsWithinTurns, length, max, no_tally, Tally, tally_of, true, unsettled_count, ℕ, ◌*◌, ◌+◌, ◌<◌, ◌^◌}
+use Rattle.core_core.proofs.Names.{◌≡◌, ◌≤◌}
 
 pub no_tally_fits : (turns unsettled floor : ℕ) → floor + unsettled * 2 ^ 50 ≤ turns * 2 ^ 50 → FitsTurns turns unsettled no_tally
 no_tally_fits turns unsettled floor low = record { runtime = omega arith; selected = omega arith; time = omega arith; finished = omega arith; returned = omega arith }

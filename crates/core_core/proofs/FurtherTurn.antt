@@ -1,31 +1,10 @@
 -- A further poll of the open turn, from what is known inside: the head of its queue goes out, is polled, and its poll is settled. And what that comes to, in the words of the contract.
-use Rattle.std.proofs.Common.{◌≡◌, ℕ, ◌<◌, ◌≤◌, Bool, true, false, List, ◌∷◌, Option, Some, None, Ok, refl, sym, ap, ◌∙◌, subst}
-use Rattle.std.specs.Prelude.{◌-◌, ◌&&◌, ◌||◌, IfSome, nat_lt, not, is_some, unwrap_or, slice_set}
-use Rattle.std.proofs.lemmas.Bool.{true≢false}
-use Rattle.base_words.specs.declared.names.JobId.{JobId}
-use Rattle.base_words.specs.declared.names.Key.{Key}
-use Rattle.base_words.specs.declared.order.Reason.{Reason}
+use Rattle.core_core.proofs.Names.{ap, Bool, Call, CoreView, false, FitsTurns, follow_notes, Follows, FollowsOut, FollowsWhole, goes_out, GoesOn, IfSome, is_any, is_done_step, is_some, IsAheadInTurn, IsBounded, IsCore, IsOver, IsReady}
+use Rattle.core_core.proofs.Names.{IsReadyTurn, IsWithinLimits, JobId, JobOut, Key, List, longer, Marks, may_go_on, Meaning, nat_lt, None, not, number_if, Ok, OpenTurn, Option, or_else, polled_again, queue_count, queue_held, QueuesView}
+use Rattle.core_core.proofs.Names.{Reason, reason_if_returning, refl, return_reason, settle_notes, settled_of, settled_tally, SettlesStep, shares_of, slice_set, Some, stays, Step, subst, sym, Tally, tally_of, true, true≢false, TurnsFront}
+use Rattle.core_core.proofs.Names.{TurnsFurther, unsettled_count, unwrap_or, waiting_of, ℕ, ◌&&◌, ◌<◌, ◌||◌, ◌∙◌, ◌∷◌, ◌≡◌, ◌≤◌}
+use Rattle.std.specs.Prelude.{◌-◌}
 use Rattle.base_words.specs.declared.order.Reason.TheVariants as why
-use Rattle.base_words.specs.Commands.{reason_if_returning}
-use Rattle.base_words.specs.Journal.{or_else}
-use Rattle.base_words.specs.Work.{number_if}
-use Rattle.base_jobs.specs.Calls.{Call}
-use Rattle.base_jobs.specs.declared.job.Step.{Step}
-use Rattle.base_jobs.specs.Meanings.{Meaning}
-use Rattle.base_jobs.specs.Ready.{IsReady}
-use Rattle.core_core.specs.Answers.{IsReadyTurn}
-use Rattle.base_jobs.specs.Steps.{is_done_step}
-use Rattle.core_queues.specs.Queues.{Marks, QueuesView, queue_count, waiting_of, shares_of, IsWithinLimits}
-use Rattle.core_queues.specs.Fronts.{TurnsFront}
-use Rattle.core_core.specs.declared.bursts.OpenTurn.{OpenTurn}
-use Rattle.core_core.specs.declared.tally.Tally.{Tally}
-use Rattle.core_core.specs.State.{CoreView, JobOut, tally_of, is_any, IsBounded}
-use Rattle.core_core.specs.Bursts.{polled_again, longer, settled_tally, may_go_on, GoesOn, IsOver, FollowsOut, queue_held}
-use Rattle.core_core.specs.Closing.{return_reason}
-use Rattle.core_core.specs.Further.{Follows, IsAheadInTurn, FollowsWhole, TurnsFurther, follow_notes}
-use Rattle.core_core.specs.Inside.{IsCore, FitsTurns, unsettled_count}
-use Rattle.core_core.specs.Settling.{stays}
-use Rattle.core_core.specs.Whole.{SettlesStep, goes_out, settled_of, settle_notes}
 use Rattle.core_core.proofs.Closings.{some_is, or_false}
 use Rattle.core_core.proofs.Counting.{some_inside}
 use Rattle.core_core.proofs.Fits.{tally_fits, IsBounded-from_turns}

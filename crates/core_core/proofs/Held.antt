@@ -1,12 +1,6 @@
 -- Which queue is held from picks: that of the job that is out, or that of the open turn.
-use Rattle.std.proofs.Common.{◌≡◌, inl, inr, ℕ, Bool, true, false, Option, Some, None, refl, sym, ap}
-use Rattle.std.specs.Prelude.{◌⊎◌, ◌||◌, is_some}
-use Rattle.std.proofs.lemmas.Bool.{eqb-true, true≢false}
-use Rattle.base_words.specs.Names.{is_number}
-use Rattle.core_queues.specs.Queues.{waiting_of}
-use Rattle.core_core.specs.declared.bursts.OpenTurn.{OpenTurn}
-use Rattle.core_core.specs.State.{CoreView, JobOut, is_any, is_working, queue_out}
-use Rattle.core_core.specs.Bursts.{queue_open, held_by, queue_held}
+use Rattle.core_core.proofs.Names.{ap, Bool, CoreView, eqb-true, false, held_by, inl, inr, is_any, is_number, is_some, is_working, JobOut, None, OpenTurn, Option, queue_held, queue_open, queue_out, refl, Some, sym, true, true≢false}
+use Rattle.core_core.proofs.Names.{waiting_of, ℕ, ◌||◌, ◌≡◌, ◌⊎◌}
 
 -- the number that a queue is held under
 pub held_number : (queue : ℕ) (held : Option ℕ) → is_number queue held ≡ true → held ≡ Some queue

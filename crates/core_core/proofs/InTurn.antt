@@ -1,25 +1,8 @@
 -- What holds inside a core as the next job of its open turn goes out, comes back, and as the turn ends.
-use Rattle.std.proofs.Common.{◌≡◌, ◌≢◌, ℕ, ◌+◌, ◌-◌, ◌^◌, ◌<◌, Bool, true, false, List, [], ◌∷◌, ◌++◌, length, min, Option, Some, None, refl, sym, ap, ◌∙◌, subst, arith, length-set}
-use Rattle.std.specs.Prelude.{All, IfSome, slice_set}
-use Rattle.std.proofs.lemmas.List.{set-get_or}
-use Rattle.std.proofs.lemmas.List.Elements.{All-tail}
-use Rattle.base_words.specs.declared.names.JobId.{JobId}
-use Rattle.base_words.specs.declared.names.Key.{Key}
-use Rattle.base_words.specs.Names.{is_number}
-use Rattle.base_words.specs.Work.{number_if}
-use Rattle.base_jobs.specs.declared.job.Step.{Step}
+use Rattle.core_core.proofs.Names.{All, All-tail, ap, arith, Bool, ChangesLine, ChangesParks, CoreView, false, FitsTurns, FollowsOut, IfSome, IfUndone, is_done_step, is_number, IsCore, IsPollable, IsReady, IsWithinLimits, JobId, JobOut}
+use Rattle.core_core.proofs.Names.{JoinsAgain, KeepsCounts, Key, length, length-set, Line, List, Marks, Meaning, min, no_tally, None, number_if, OpenTurn, Option, parked_of, ParksOrStays, polled_again, queue_count, queue_held, refl}
+use Rattle.core_core.proofs.Names.{set-get_or, settled_tally, slice_set, Some, Step, subst, sym, Tally, tally_of, true, waiting_of, ℕ, [], ◌++◌, ◌+◌, ◌-◌, ◌<◌, ◌^◌, ◌∙◌, ◌∷◌, ◌≡◌, ◌≢◌}
 use Rattle.base_jobs.specs.declared.job.Step.TheVariants as steps
-use Rattle.base_jobs.specs.Meanings.{Meaning}
-use Rattle.base_jobs.specs.Ready.{IsReady}
-use Rattle.base_jobs.specs.Steps.{IfUndone, is_done_step}
-use Rattle.core_queues.specs.Queues.{Line, Marks, queue_count, waiting_of, parked_of, ChangesLine, IsWithinLimits}
-use Rattle.core_queues.specs.Parks.{ChangesParks}
-use Rattle.core_queues.specs.Fronts.{JoinsAgain, ParksOrStays}
-use Rattle.core_core.specs.declared.bursts.OpenTurn.{OpenTurn}
-use Rattle.core_core.specs.declared.tally.Tally.{Tally}
-use Rattle.core_core.specs.State.{CoreView, JobOut, no_tally, tally_of}
-use Rattle.core_core.specs.Bursts.{polled_again, settled_tally, queue_held, FollowsOut}
-use Rattle.core_core.specs.Inside.{IsCore, KeepsCounts, IsPollable, FitsTurns}
 use Rattle.core_core.proofs.Counting.{KeepsCounts-picks, KeepsCounts-yields, KeepsCounts-parks, KeepsCounts-finishes}
 use Rattle.core_core.proofs.Entries.{runtime_of-set_other, IsListed-held}
 use Rattle.core_core.proofs.Held.{held_out, held_turn}

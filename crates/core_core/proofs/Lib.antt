@@ -1,3 +1,4 @@
+mod Names
 pub mod Listed
 pub mod Held
 pub mod Turning

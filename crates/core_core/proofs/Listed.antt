@@ -1,11 +1,6 @@
 -- Which virtual runtime a queue has among keys that rise.
-use Rattle.std.proofs.Common.{◌≡◌, ◌≢◌, inl, inr, ℕ, Bool, true, false, cond, List, [], ◌∷◌, Some, None, refl, sym, ap, ◌∙◌, arith, eqb}
-use Rattle.std.proofs.lemmas.Bool.{eqb-true, eq-eqb, true≢false}
-use Rattle.std.proofs.lemmas.Bool.Decides.{eqb_tells}
-use Rattle.base_words.specs.declared.names.Key.{Key}
-use Rattle.base_words.specs.Keys.{KeyAtMost}
-use Rattle.core_timeline.specs.Rising.{StandsBefore, stands_before, EachKey, IsRising, LacksQueue, inserted}
-use Rattle.core_core.specs.Inside.{runtime_listed}
+use Rattle.core_core.proofs.Names.{ap, arith, Bool, cond, EachKey, eq-eqb, eqb, eqb-true, eqb_tells, false, inl, inr, inserted, IsRising, Key, KeyAtMost, LacksQueue, List, None, refl, runtime_listed, Some, stands_before, StandsBefore, sym}
+use Rattle.core_core.proofs.Names.{true, true≢false, ℕ, [], ◌∙◌, ◌∷◌, ◌≡◌, ◌≢◌}
 
 pub eqb-self : (a : ℕ) → eqb a a ≡ true
 eqb-self a = eq-eqb a a refl

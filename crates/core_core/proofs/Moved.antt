@@ -1,20 +1,8 @@
 -- What holds inside a core as parked jobs come to the line of their queue, and as a wake is kept.
-use Rattle.std.proofs.Common.{◌≡◌, inl, inr, ℕ, ◌<◌, Bool, true, false, List, [], ◌∷◌, ◌++◌, length, map, Option, Some, refl, sym, ap, ◌∙◌, subst, arith, length-append, length-set}
-use Rattle.std.specs.Prelude.{◌⊎◌, ◌&&◌, not, is_some, All, IfSome, slice_set}
-use Rattle.std.proofs.lemmas.Bool.{cases_eq}
-use Rattle.std.proofs.lemmas.List.Elements.{All-head, All-tail, All-cons, All-append, All-map, All-set}
-use Rattle.base_words.specs.declared.names.JobId.{JobId}
-use Rattle.base_words.specs.declared.names.Key.{Key}
-use Rattle.base_words.specs.Names.{is_number}
-use Rattle.base_words.specs.Work.{number_if}
-use Rattle.base_jobs.specs.Meanings.{Meaning}
-use Rattle.base_jobs.specs.Ready.{IsReady}
-use Rattle.core_queues.specs.Queues.{Line, Marks, Parks, QueuesView, waiting_of, parked_of, queue_count, held_count, awake, ChangesLine, IsWithinLimits}
-use Rattle.core_queues.specs.Parks.{Moves}
-use Rattle.core_core.specs.declared.tally.Tally.{Tally}
-use Rattle.core_core.specs.State.{CoreView, JobOut, is_any, is_working, queue_out}
-use Rattle.core_core.specs.Bursts.{queue_open, queue_held}
-use Rattle.core_core.specs.Inside.{IsCore, IsPollable, FitsTurns, may_run, unsettled_count}
+use Rattle.core_core.proofs.Names.{All, All-append, All-cons, All-head, All-map, All-set, All-tail, ap, arith, awake, Bool, cases_eq, ChangesLine, CoreView, false, FitsTurns, held_count, IfSome, inl, inr, is_any, is_number, is_some}
+use Rattle.core_core.proofs.Names.{is_working, IsCore, IsPollable, IsReady, IsWithinLimits, JobId, JobOut, Key, keys_after, length, length-append, length-set, Line, List, map, Marks, may_run, Meaning, Moves, not, number_if, Option}
+use Rattle.core_core.proofs.Names.{parked_of, Parks, queue_count, queue_held, queue_open, queue_out, QueuesView, refl, slice_set, slips_after, Some, subst, sym, Tally, true, unsettled_count, waiting_of, ℕ, [], ◌&&◌, ◌++◌, ◌<◌, ◌∙◌, ◌∷◌}
+use Rattle.core_core.proofs.Names.{◌≡◌, ◌⊎◌}
 use Rattle.core_core.proofs.Counting.{KeepsCounts-held, IsListed-same}
 use Rattle.core_core.proofs.Entries.{may_run-same, entry_of-same, none_from_is_any, runtime_of-set_other, IsListed-kept, IsListed-held}
 use Rattle.core_core.proofs.Held.{not_held, held_out}
@@ -22,7 +10,6 @@ use Rattle.core_core.proofs.Listed.{LacksQueue-from_none}
 use Rattle.core_core.proofs.Parts.{both_false, idle_entry, IsListed-joins, IsListed-activates, IsPollable-moved, IsPollable-changed}
 use Rattle.core_core.proofs.SlipsKept.{KeepsSlips-same, KeepsSlips-inserted}
 use Rattle.core_core.proofs.Turning.{KeepsTurn-same, held_in_turn}
-use Rattle.core_core.specs.Relisted.{keys_after, slips_after}
 
 -- one in the midst of a list
 pub is_any-middle : {A : Type 0} (before : List A) (one : A) (behind : List A) → is_any (before ++ one ∷ behind) ≡ true

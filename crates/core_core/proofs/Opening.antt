@@ -1,19 +1,11 @@
 -- What holds inside a core as it opens.
-use Rattle.std.proofs.Common.{◌≡◌, ℕ, zero, suc, ◌+◌, ◌≤◌, length, false, List, [], ◌∷◌, None, refl, sym, ap, arith}
-use Rattle.std.proofs.lemmas.List.Elements.{All-push}
-use Rattle.core_queues.specs.Queues.{first_queue, waiting_of, parked_of}
-use Rattle.core_queues.specs.Slips.{SlippedView, queues_alone}
+use Rattle.core_core.proofs.Names.{All-push, ap, arith, core_view, CoreView, false, first_queue, FitsTurns, is_any, IsCore, IsListed, IsPollable, IsWithinTurns, KeepsCounts, Key, length, List, Meaning, no_tally, None, parked_of}
+use Rattle.core_core.proofs.Names.{queues_alone, refl, SendersView, SlippedView, suc, sym, Tally, waiting_of, zero, ℕ, [], ◌+◌, ◌∷◌, ◌≡◌, ◌≤◌}
 use Rattle.core_queues.specs.Slips as slipped
-use Rattle.base_words.specs.declared.names.Key.{Key}
-use Rattle.core_core.specs.declared.tally.Tally.{Tally}
-use Rattle.core_core.specs.Senders.{SendersView}
-use Rattle.core_core.specs.State.{CoreView, no_tally, is_any}
-use Rattle.core_core.specs.Inside.{core_view, FitsTurns, IsCore, KeepsCounts, IsListed, IsPollable, IsWithinTurns}
 use Rattle.core_core.proofs.Entries.{entry_of-none}
 use Rattle.core_core.proofs.Fits.{no_tally_fits}
 use Rattle.core_core.proofs.Settling.{may_run-free}
 use Rattle.core_core.proofs.SlipsKept.{KeepsSlips-opened}
-use Rattle.base_jobs.specs.Meanings.{Meaning}
 
 module _ {J : Type 0} (core cores room turns burst : ℕ) (senders : SendersView) where
   abbrev first_view : List Tally → CoreView J

@@ -1,24 +1,11 @@
 -- What a delivered command came to, from what its parts did.
-use Rattle.std.proofs.Common.{◌≡◌, ◌↔◌, ℕ, ◌<◌, ◌≤◌, Bool, true, false, List, [], ◌∷◌, ◌++◌, length, Option, Some, None, Result, Ok, Err, ⊎_elim, inl, inr, refl, sym, ap, ◌∙◌, subst, arith}
-use Rattle.std.proofs.lemmas.Bool.{cases_lt, true≢false}
-use Rattle.std.specs.Prelude.{slice_set, is_some}
-use Rattle.base_words.specs.declared.names.JobId.{JobId}
-use Rattle.base_words.specs.declared.note.Note.{Note}
+use Rattle.core_core.proofs.Names.{AddsQueue, Answer, ap, arith, Bool, cases_lt, ClosesCore, ClosesQueue, CoreView, counted, CountsAlone, CreateError, Creates, CreatesQueue, Delivered, Delivers, Err, false, inl, inr, is_some, job_at, JobId}
+use Rattle.core_core.proofs.Names.{length, List, Mode, no_tally, None, Note, Ok, Option, queue_count, QueuesView, refl, Result, slice_set, Some, subst, sym, true, true≢false, Wakes, ℕ, [], ⊎_elim, ◌++◌, ◌<◌, ◌↔◌, ◌∙◌, ◌∷◌, ◌≡◌, ◌≤◌}
 use Rattle.base_words.specs.declared.note.Note.TheVariants as notes
-use Rattle.base_words.specs.declared.order.Mode.{Mode}
-use Rattle.base_words.specs.declared.order.Answer.{Answer}
 use Rattle.base_words.specs.declared.order.Answer.TheVariants as answers
 use Rattle.base_words.specs.declared.order.Order.TheVariants as orders
-use Rattle.base_words.specs.Commands.{job_at}
-use Rattle.core_queues.specs.Queues.{QueuesView, queue_count, AddsQueue}
-use Rattle.core_queues.specs.declared.queues.CreateError.{CreateError}
 use Rattle.core_queues.specs.declared.queues.CreateError.TheVariants.{TooMany, Memory}
-use Rattle.core_core.specs.declared.delivery.Delivered.{Delivered}
 use Rattle.core_core.specs.declared.delivery.Delivered.TheVariants as deliveries
-use Rattle.core_core.specs.State.{CoreView, no_tally}
-use Rattle.core_core.specs.Closing.{ClosesQueue, ClosesCore}
-use Rattle.core_core.specs.Deliveries.{Creates, CreatesQueue, CountsAlone, Delivers, counted}
-use Rattle.core_core.specs.Waking.{Wakes}
 
 -- what isn't there is none
 pub none_if_not : {X : Type 0} (found : Option X) → is_some found ≡ false → found ≡ None

@@ -1,23 +1,9 @@
 -- What holds inside a core, part by part, after each step.
-use Rattle.std.proofs.Common.{◌≡◌, ◌≢◌, inl, inr, ℕ, ◌+◌, ◌<◌, Bool, true, false, List, [], ◌∷◌, ◌++◌, length, Option, Some, None, refl, sym, ap, ◌∙◌, subst, arith, length-append}
-use Rattle.std.specs.Prelude.{◌⊎◌, ◌&&◌, ◌||◌, not, is_some, All, IfSome, slice_index_or, slice_set}
-use Rattle.std.proofs.lemmas.Bool.{cases_eq}
-use Rattle.std.proofs.lemmas.List.Elements.{All-push, All-same}
-use Rattle.base_words.specs.declared.names.JobId.{JobId}
-use Rattle.base_words.specs.declared.names.Key.{Key}
-use Rattle.base_words.specs.Names.{is_number}
-use Rattle.base_words.specs.Work.{number_if}
-use Rattle.base_jobs.specs.Ready.{IsReady}
-use Rattle.core_queues.specs.Queues.{Line, Marks, Parks, waiting_of, parked_of, queue_count, ChangesLine, IsWithinLimits}
-use Rattle.core_queues.specs.Parks.{ChangesParks, Moves}
-use Rattle.core_core.specs.declared.tally.Tally.{Tally}
-use Rattle.core_core.specs.State.{CoreView, JobOut, no_tally, is_any, queue_out, is_working, out_count}
-use Rattle.core_core.specs.Bursts.{queue_held}
-use Rattle.core_timeline.specs.Rising.{inserted}
-use Rattle.core_core.specs.Inside.{may_run, KeepsCounts, IsListed, IsPollable}
+use Rattle.core_core.proofs.Names.{All, All-push, All-same, ap, arith, Bool, cases_eq, ChangesLine, ChangesParks, CoreView, false, IfSome, inl, inr, inserted, is_any, is_number, is_some, is_working, IsListed, IsPollable, IsReady}
+use Rattle.core_core.proofs.Names.{IsWithinLimits, JobId, JobOut, KeepsCounts, Key, length, length-append, Line, List, Marks, may_run, Meaning, Moves, no_tally, None, not, number_if, Option, out_count, parked_of, Parks, queue_count}
+use Rattle.core_core.proofs.Names.{queue_held, queue_out, refl, slice_index_or, slice_set, Some, subst, sym, Tally, true, waiting_of, ℕ, [], ◌&&◌, ◌++◌, ◌+◌, ◌<◌, ◌||◌, ◌∙◌, ◌∷◌, ◌≡◌, ◌≢◌, ◌⊎◌}
 use Rattle.core_core.proofs.Entries.{entry_of, may_run-same, entry_of-same, entry_of-none, entry_of-some, runtime_of-set_other, runtime_of-set_same, IsListed-kept, IsListed-inserted}
 use Rattle.core_core.proofs.Held.{work_or_held}
-use Rattle.base_jobs.specs.Meanings.{Meaning}
 
 pub both_false : (any out : Bool) → (any || out) ≡ false → (any ≡ false) × (out ≡ false)
 both_false true out e = cc

@@ -1,20 +1,7 @@
 -- What holds inside a core as a job is taken out.
-use Rattle.std.proofs.Common.{◌≡◌, ◌≢◌, inl, inr, ℕ, ◌+◌, ◌*◌, ◌^◌, ◌<◌, ◌≤◌, Bool, true, false, cond, List, [], ◌∷◌, max, Option, Some, None, refl, sym, ap, ◌∙◌, subst, arith}
-use Rattle.std.specs.Prelude.{All, is_some, not, ◌&&◌, slice_set}
-use Rattle.std.proofs.lemmas.Bool.{cases_lt, true≢false}
-use Rattle.std.proofs.lemmas.List.{get_or_past}
-use Rattle.std.proofs.lemmas.List.Elements.{All-set, All-weaker}
-use Rattle.base_words.specs.declared.names.Key.{Key}
-use Rattle.base_words.specs.Keys.{KeyAtMost}
-use Rattle.base_words.specs.Names.{is_number}
-use Rattle.base_words.specs.Work.{number_if}
-use Rattle.core_queues.specs.Queues.{QueuesView, waiting_of, queue_count, no_queue}
-use Rattle.core_core.specs.declared.tally.Tally.{Tally}
-use Rattle.core_core.specs.State.{CoreView, is_any, runtime_of}
-use Rattle.core_core.specs.Bursts.{queue_held}
-use Rattle.core_core.specs.Turns.{IsNext}
-use Rattle.core_timeline.specs.Rising.{IsRising, LacksQueue}
-use Rattle.core_core.specs.Inside.{runtime_listed, may_run, unsettled_count, FitsTurns, IsListed, IsWithinTurns}
+use Rattle.core_core.proofs.Names.{All, All-set, All-weaker, ap, arith, Bool, cases_lt, cond, CoreView, false, FitsTurns, get_or_past, inl, inr, is_any, is_number, is_some, IsListed, IsNext, IsRising, IsWithinTurns, Key, KeyAtMost}
+use Rattle.core_core.proofs.Names.{LacksQueue, List, max, may_run, no_queue, None, not, number_if, Option, queue_count, queue_held, QueuesView, refl, runtime_listed, runtime_of, slice_set, Some, subst, sym, Tally, true, true≢false}
+use Rattle.core_core.proofs.Names.{unsettled_count, waiting_of, ℕ, [], ◌&&◌, ◌*◌, ◌+◌, ◌<◌, ◌^◌, ◌∙◌, ◌∷◌, ◌≡◌, ◌≢◌, ◌≤◌}
 use Rattle.core_core.proofs.Listed.{listed-least, least_of_listed}
 use Rattle.core_core.proofs.Entries.{entry_of, entry_of-same, entry_of-none, entry_of-some, runtime_of-set_other, IsListed-taken, is_any-from_some, some_from_is_any, none_from_is_any}
 use Rattle.core_core.proofs.Settling.{may_run-free, may_run-other, held_entry_at}

@@ -1,21 +1,10 @@
 -- What settling a poll came to, from what its parts did.
-use Rattle.std.proofs.Common.{◌≡◌, ℕ, true, false, List, [], ◌∷◌, ◌++◌, Option, Some, None, refl, sym, ap, ◌∙◌, subst}
-use Rattle.std.specs.Prelude.{Bool, IsSome, IfSome, unwrap_or}
-use Rattle.base_words.specs.declared.names.JobId.{JobId}
-use Rattle.base_words.specs.declared.note.Note.{Note}
+use Rattle.core_core.proofs.Names.{AfterPoll, AnswersOut, ap, ChangesLine, ChangesParks, CoreView, false, FinishesOut, IfSome, IsMeaning, IsSome, IsTaskOut, JobId, JobOut, List, Marks, Meaning, None, Note, Option, parked_of, ParksOut, refl}
+use Rattle.core_core.proofs.Names.{RejoinsOut, RestsOut, Settled, settled_view, Settles, SettlesOut, Some, stays, Step, subst, sym, true, unwrap_or, waiting_of, ℕ, [], ◌++◌, ◌∙◌, ◌∷◌, ◌≡◌}
+use Rattle.std.specs.Prelude.{Bool}
 use Rattle.base_words.specs.declared.note.Note.TheVariants as notes
-use Rattle.base_jobs.specs.declared.job.Step.{Step}
 use Rattle.base_jobs.specs.declared.job.Step.TheVariants as step
-use Rattle.base_jobs.specs.Meanings.{Meaning, IsMeaning}
-use Rattle.base_jobs.specs.Steps.{AfterPoll}
-use Rattle.core_queues.specs.Queues.{Marks, waiting_of, parked_of, ChangesLine}
-use Rattle.core_queues.specs.Parks.{ChangesParks}
-use Rattle.core_core.specs.declared.turn.Settled.{Settled}
 use Rattle.core_core.specs.declared.turn.Settled.TheVariants.{Yielded, Parked, Stayed, Finished}
-use Rattle.core_core.specs.State.{CoreView, JobOut}
-use Rattle.core_core.specs.Settling.{stays, settled_view, Settles, SettlesOut}
-use Rattle.core_core.specs.Steps.{RejoinsOut, ParksOut, RestsOut, FinishesOut}
-use Rattle.core_core.specs.Answers.{IsTaskOut, AnswersOut}
 
 module _ {J T : Type 0} (old : CoreView J) (ran : AfterPoll J T) (spent : ℕ) (name : JobId) (time : ℕ) (new : CoreView J) (written : List (Note T))
     (counts : time ≡ unwrap_or ran.told spent) where

@@ -1,22 +1,7 @@
 -- A poll in an open turn is settled, and the turn ends: what holds inside then, and what it comes to in the words of the contract.
-use Rattle.std.proofs.Common.{◌≡◌, ℕ, ◌+◌, ◌-◌, ◌^◌, ◌<◌, Bool, true, List, [], ◌∷◌, ◌++◌, length, min, Option, Some, None, refl, sym, ap, ◌∙◌, arith, length-set}
-use Rattle.std.specs.Prelude.{is_some, slice_index_or, slice_set}
-use Rattle.std.proofs.lemmas.Bool.{true≢false}
-use Rattle.std.proofs.lemmas.List.{set-get_or}
-use Rattle.base_words.specs.declared.names.Key.{Key}
-use Rattle.base_jobs.specs.Meanings.{Meaning}
-use Rattle.base_jobs.specs.Ready.{IsReady}
-use Rattle.base_words.specs.Charge.{charge, clamped}
-use Rattle.core_queues.specs.Queues.{QueuesView, waiting_of, parked_of, shares_of, ChangesLine, IsWithinLimits}
-use Rattle.core_queues.specs.Parks.{ChangesParks}
-use Rattle.core_core.specs.declared.bursts.Bursts.{Bursts}
-use Rattle.core_core.specs.declared.bursts.OpenTurn.{OpenTurn}
-use Rattle.core_core.specs.declared.tally.Tally.{Tally}
-use Rattle.core_core.specs.State.{CoreView, JobOut, no_tally, tally_of, is_any}
-use Rattle.core_core.specs.Bursts.{longer, lasted, settled_tally, queue_held}
-use Rattle.core_core.specs.Inside.{IsCore, FitsTurns}
-use Rattle.core_core.specs.Relisted.{keys_after, slips_after}
-use Rattle.core_core.specs.Steps.{RejoinsOut, ParksOut, FinishesOut}
+use Rattle.core_core.proofs.Names.{ap, arith, Bool, Bursts, ChangesLine, ChangesParks, charge, clamped, CoreView, FinishesOut, FitsTurns, is_any, is_some, IsCore, IsReady, IsWithinLimits, JobOut, Key, keys_after, lasted, length, length-set}
+use Rattle.core_core.proofs.Names.{List, longer, Meaning, min, no_tally, None, OpenTurn, Option, parked_of, ParksOut, queue_held, QueuesView, refl, RejoinsOut, set-get_or, settled_tally, shares_of, slice_index_or, slice_set, slips_after}
+use Rattle.core_core.proofs.Names.{Some, sym, Tally, tally_of, true, true≢false, waiting_of, ℕ, [], ◌++◌, ◌+◌, ◌-◌, ◌<◌, ◌^◌, ◌∙◌, ◌∷◌, ◌≡◌}
 use Rattle.core_core.proofs.Charging.{tally_read}
 use Rattle.core_core.proofs.Counting.{some_inside, KeepsCounts-held}
 use Rattle.core_core.proofs.Held.{held_out, held_turn}

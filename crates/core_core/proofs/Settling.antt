@@ -1,17 +1,6 @@
 -- What holds inside a core as the job that is out comes back.
-use Rattle.std.proofs.Common.{◌≡◌, ◌≢◌, inl, inr, ℕ, ◌<◌, Bool, true, false, List, length, Option, Some, None, refl, sym, ap, ◌∙◌, subst, arith}
-use Rattle.std.specs.Prelude.{◌⊎◌, ◌&&◌, not, All, is_some, slice_set}
-use Rattle.std.proofs.lemmas.Bool.{cases_eq}
-use Rattle.std.proofs.lemmas.List.Elements.{All-set, All-weaker}
-use Rattle.base_words.specs.declared.names.Key.{Key}
-use Rattle.base_words.specs.Names.{is_number}
-use Rattle.base_words.specs.Work.{number_if}
-use Rattle.core_queues.specs.Queues.{waiting_of}
-use Rattle.core_core.specs.declared.tally.Tally.{Tally}
-use Rattle.core_core.specs.State.{CoreView, JobOut, is_any}
-use Rattle.core_core.specs.Bursts.{queue_held}
-use Rattle.core_timeline.specs.Rising.{inserted}
-use Rattle.core_core.specs.Inside.{may_run, unsettled_count, FitsTurns, IsListed, IsWithinTurns}
+use Rattle.core_core.proofs.Names.{All, All-set, All-weaker, ap, arith, Bool, cases_eq, CoreView, false, FitsTurns, inl, inr, inserted, is_any, is_number, is_some, IsListed, IsWithinTurns, JobOut, Key, length, List, may_run, None, not}
+use Rattle.core_core.proofs.Names.{number_if, Option, queue_held, refl, slice_set, Some, subst, sym, Tally, true, unsettled_count, waiting_of, ℕ, ◌&&◌, ◌<◌, ◌∙◌, ◌≡◌, ◌≢◌, ◌⊎◌}
 use Rattle.core_core.proofs.Listed.{eqb-self, eqb-apart}
 use Rattle.core_core.proofs.Entries.{entry_of, held_entry, entry_of-same, entry_of-none, entry_of-some, runtime_of-set_other, runtime_of-set_same, IsListed-kept, IsListed-inserted}
 use Rattle.core_core.proofs.Fits.{settled_fits}

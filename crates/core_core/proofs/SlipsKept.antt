@@ -1,11 +1,7 @@
 -- A queue has its slip exactly where no key is of it, also as a key comes or goes.
-use Rattle.std.proofs.Common.{◌≡◌, inl, inr, ℕ, zero, suc, ◌+◌, ◌<◌, Bool, true, false, List, [], ◌∷◌, ◌++◌, set, get_or, Option, None, refl, sym, ap, ◌∙◌, subst, arith}
-use Rattle.std.specs.Prelude.{◌⊎◌, not, is_some}
-use Rattle.std.proofs.lemmas.Bool.{cases_eq}
-use Rattle.std.proofs.lemmas.List.{set-set, set-get_or, length_push, length-set, get_or_push, get_or_append_left, get_or-set_same, get_or-set_other}
-use Rattle.base_words.specs.declared.names.Key.{Key}
-use Rattle.core_timeline.specs.Rising.{LacksQueue, inserted}
-use Rattle.core_core.specs.Inside.{runtime_listed, KeepsSlips}
+use Rattle.core_core.proofs.Names.{ap, arith, Bool, cases_eq, false, get_or, get_or-set_other, get_or-set_same, get_or_append_left, get_or_push, inl, inr, inserted, is_some, KeepsSlips, Key, LacksQueue, length_push, List, None, not, Option}
+use Rattle.core_core.proofs.Names.{refl, runtime_listed, set, set-get_or, set-set, subst, suc, sym, true, zero, ℕ, [], ◌++◌, ◌+◌, ◌<◌, ◌∙◌, ◌∷◌, ◌≡◌, ◌⊎◌}
+use Rattle.std.proofs.lemmas.List.{length-set}
 use Rattle.core_core.proofs.Listed.{none_from_lacking, listed-inserted_same, listed-inserted_other, listed-least, listed-later}
 
 -- one queue, with its slip, and no key

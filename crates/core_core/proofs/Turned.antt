@@ -1,22 +1,8 @@
 -- A whole turn is that of the job that was told ahead.
-use Rattle.std.proofs.Common.{◌≡◌, ℕ, Bool, true, false, List, [], ◌∷◌, inl, inr, Some, None, Ok, refl, sym, ap, ◌∙◌, subst, arith}
-use Rattle.std.specs.Prelude.{unwrap_or}
-use Rattle.base_words.specs.declared.names.JobId.{JobId}
-use Rattle.base_words.specs.declared.names.Key.{Key}
+use Rattle.core_core.proofs.Names.{AfterPoll, ap, arith, Bool, Call, CoreView, false, first_key, goes_out, inl, inr, IsAhead, IsNext, JobId, JobOut, Key, KeyAtMost, List, Marks, Meaning, None, Ok, pick_notes, Picks, refl, return_reason}
+use Rattle.core_core.proofs.Names.{runtime_of, settle_notes, settled_of, SettlesOut, SettlesStep, Some, stays, Step, subst, sym, TakesOut, true, TurnsFirst, TurnsWhole, unwrap_or, waiting_of, ℕ, [], ◌∙◌, ◌∷◌, ◌≡◌}
 use Rattle.base_words.specs.declared.note.Note.TheVariants as notes
-use Rattle.base_words.specs.Keys.{KeyAtMost}
-use Rattle.base_jobs.specs.Calls.{Call}
-use Rattle.base_jobs.specs.declared.job.Step.{Step}
 use Rattle.base_jobs.specs.declared.job.Step.TheVariants as steps
-use Rattle.base_jobs.specs.Meanings.{Meaning}
-use Rattle.base_jobs.specs.Steps.{AfterPoll}
-use Rattle.core_timeline.specs.Rising.{first_key}
-use Rattle.core_queues.specs.Queues.{Marks, waiting_of}
-use Rattle.core_core.specs.State.{CoreView, JobOut, runtime_of}
-use Rattle.core_core.specs.Closing.{return_reason}
-use Rattle.core_core.specs.Settling.{stays, SettlesOut}
-use Rattle.core_core.specs.Turns.{IsNext, TakesOut, Picks}
-use Rattle.core_core.specs.Whole.{IsAhead, TurnsFirst, TurnsWhole, SettlesStep, goes_out, pick_notes, settled_of, settle_notes}
 use Rattle.core_core.proofs.Closings.{out_taken, stays_taken}
 use Rattle.core_core.proofs.PollsSettled.{settles_yield, settles_stay, settles_park, settles_done}
 

@@ -1,14 +1,6 @@
 -- What is known of the open turn, after each step.
-use Rattle.std.proofs.Common.{◌≡◌, ℕ, ◌<◌, ◌≤◌, Bool, true, false, cond, Option, Some, None, refl, sym, ap, ◌∙◌, subst, arith}
-use Rattle.std.specs.Prelude.{IfSome, is_some}
-use Rattle.std.proofs.lemmas.Bool.{true≢false}
-use Rattle.base_words.specs.Bursts.{has_bursts}
-use Rattle.base_words.specs.Names.{is_number}
-use Rattle.core_queues.specs.Queues.{queue_count}
-use Rattle.core_core.specs.declared.bursts.Bursts.{Bursts}
-use Rattle.core_core.specs.declared.bursts.OpenTurn.{OpenTurn}
-use Rattle.core_core.specs.State.{CoreView, JobOut, queue_out}
-use Rattle.core_core.specs.Bursts.{begun, queue_open, held_by, queue_held, KeepsTurn}
+use Rattle.core_core.proofs.Names.{ap, arith, begun, Bool, Bursts, cond, CoreView, false, has_bursts, held_by, IfSome, is_number, is_some, JobOut, KeepsTurn, None, OpenTurn, Option, queue_count, queue_held, queue_open, queue_out, refl}
+use Rattle.core_core.proofs.Names.{Some, subst, sym, true, true≢false, ℕ, ◌<◌, ◌∙◌, ◌≡◌, ◌≤◌}
 
 same_number : {one other : ℕ} → Some one ≡ Some other → one ≡ other
 same_number same = cc

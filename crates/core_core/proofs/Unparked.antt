@@ -1,16 +1,8 @@
 -- All parks of a queue end, of one after another, and so of all.
-use Rattle.std.proofs.Common.{◌≡◌, inl, inr, ℕ, ◌+◌, ◌<◌, ◌≤◌, Bool, true, false, cond, List, [], ◌∷◌, ◌++◌, length, map, refl, sym, ap, ◌∙◌, subst, arith}
-use Rattle.std.specs.Prelude.{◌⊎◌, ◌||◌, ◌==◌, nat_lt, slice_index_or, slice_set}
-use Rattle.std.proofs.lemmas.Bool.{cases_lt, eqb-true, eq-eqb, lt-ltb, le-ltb, ltb-true, ltb-false, true≢false}
-use Rattle.std.proofs.lemmas.List.{append-nil, length-set, get_or-set_same, get_or-set_other}
-use Rattle.base_words.specs.Charge.{placed}
-use Rattle.base_words.specs.Names.{is_number}
-use Rattle.core_queues.specs.Queues.{Line, Parks, QueuesView, waiting_of, parked_of, queue_count, awake}
-use Rattle.core_queues.specs.Parks.{Moves}
-use Rattle.core_queues.proofs.QueuesLemmas.{parked_of-past}
-use Rattle.core_core.specs.declared.tally.Tally.{Tally}
-use Rattle.core_core.specs.State.{CoreView, no_tally, is_any, is_working, queue_out, tally_of}
-use Rattle.core_core.specs.Closing.{unparked, still_parked, tally_woken, EndsParks}
+use Rattle.core_core.proofs.Names.{ap, append-nil, arith, awake, Bool, cases_lt, cond, CoreView, EndsParks, eq-eqb, eqb-true, false, get_or-set_other, get_or-set_same, inl, inr, is_any, is_number, is_working, le-ltb, length, Line, List}
+use Rattle.core_core.proofs.Names.{lt-ltb, ltb-false, ltb-true, map, Moves, nat_lt, no_tally, parked_of, parked_of-past, Parks, placed, queue_count, queue_out, QueuesView, refl, slice_index_or, slice_set, still_parked, subst, sym, Tally}
+use Rattle.core_core.proofs.Names.{tally_of, tally_woken, true, true≢false, unparked, waiting_of, ℕ, [], ◌++◌, ◌+◌, ◌<◌, ◌==◌, ◌||◌, ◌∙◌, ◌∷◌, ◌≡◌, ◌≤◌, ◌⊎◌}
+use Rattle.std.proofs.lemmas.List.{length-set}
 use Rattle.core_core.proofs.Charging.{tally_read}
 use Rattle.core_core.proofs.Entries.{none_from_is_any}
 use Rattle.core_core.proofs.Parts.{both_false}

@@ -1,19 +1,6 @@
 -- A wake of a job that isn't out: what it came to, and what holds inside then.
-use Rattle.std.proofs.Common.{◌≡◌, inl, inr, ℕ, ◌<◌, Bool, true, false, List, [], ◌∷◌, ◌++◌, length, refl, sym, ap, ◌∙◌, subst, arith}
-use Rattle.std.specs.Prelude.{◌||◌, not, nat_lt, slice_index_or, slice_set}
-use Rattle.base_words.specs.Charge.{placed}
-use Rattle.base_words.specs.declared.names.JobId.{JobId}
-use Rattle.base_words.specs.declared.names.Key.{Key}
-use Rattle.base_words.specs.Names.{is_number}
-use Rattle.base_jobs.specs.Meanings.{Meaning}
-use Rattle.core_queues.specs.Queues.{QueuesView, waiting_of, awake, IsWithinLimits}
-use Rattle.core_queues.specs.Waking.{WakesParked, KeepsWake, HoldsNone}
-use Rattle.core_core.specs.declared.tally.Tally.{Tally}
-use Rattle.core_core.specs.State.{CoreView, is_working, queue_out}
-use Rattle.core_core.specs.Bursts.{queue_open}
-use Rattle.core_core.specs.Relisted.{keys_after, slips_after}
-use Rattle.core_core.specs.Inside.{IsCore, FitsTurns, unsettled_count}
-use Rattle.core_core.specs.Waking.{is_out, Wakes}
+use Rattle.core_core.proofs.Names.{ap, arith, awake, Bool, CoreView, false, FitsTurns, HoldsNone, inl, inr, is_number, is_out, is_working, IsCore, IsWithinLimits, JobId, KeepsWake, Key, keys_after, length, List, Meaning, nat_lt, not}
+use Rattle.core_core.proofs.Names.{placed, queue_open, queue_out, QueuesView, refl, slice_index_or, slice_set, slips_after, subst, sym, Tally, true, unsettled_count, waiting_of, Wakes, WakesParked, ℕ, [], ◌++◌, ◌<◌, ◌||◌, ◌∙◌, ◌∷◌, ◌≡◌}
 use Rattle.core_core.proofs.Entries.{is_any-push}
 use Rattle.core_core.proofs.Fits.{placed_fits}
 use Rattle.core_core.proofs.Moved.{IsCore-joined, IsCore-activated, IsCore-kept}

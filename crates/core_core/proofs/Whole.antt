@@ -1,27 +1,10 @@
 -- What holds inside a core as its next job goes out and comes back, from one view to the next.
-use Rattle.std.proofs.Common.{◌≡◌, ℕ, ◌+◌, ◌*◌, ◌^◌, ◌<◌, ◌≤◌, Bool, true, false, List, [], ◌∷◌, ◌++◌, length, max, Option, Some, None, refl, sym, ap, ◌∙◌, subst, arith, length-set}
-use Rattle.std.specs.Prelude.{◌-◌, All, is_some, slice_set}
-use Rattle.std.proofs.lemmas.Bool.{true≢false}
-use Rattle.std.proofs.lemmas.List.Elements.{All-head, All-tail}
-use Rattle.base_words.specs.declared.names.JobId.{JobId}
-use Rattle.base_words.specs.declared.names.Key.{Key}
-use Rattle.base_words.specs.Work.{number_if}
-use Rattle.base_jobs.specs.declared.job.Step.{Step}
+use Rattle.core_core.proofs.Names.{All, All-head, All-tail, ap, arith, begun, Bool, ChangesLine, ChangesParks, CoreView, false, FitsTurns, IfUndone, inserted, is_any, is_done_step, is_some, IsCore, IsFrontReady, IsPollable, IsReady}
+use Rattle.core_core.proofs.Names.{IsWithinLimits, JobId, JobOut, JoinsAgain, KeepsCounts, KeepsSlips, Key, keys_after, LacksQueue, length, length-set, Line, List, Marks, max, Meaning, None, number_if, Option, parked_of, ParksOrStays}
+use Rattle.core_core.proofs.Names.{queue_count, queue_held, QueuesView, refl, runtime_of, settled_view, SettlesStep, shares_of, slice_set, slips_after, Some, Step, subst, sym, TakesOut, Tally, tally_of, true, true≢false, unsettled_count}
+use Rattle.core_core.proofs.Names.{waiting_of, ℕ, [], ◌*◌, ◌++◌, ◌+◌, ◌<◌, ◌^◌, ◌∙◌, ◌∷◌, ◌≡◌, ◌≤◌}
+use Rattle.std.specs.Prelude.{◌-◌}
 use Rattle.base_jobs.specs.declared.job.Step.TheVariants as steps
-use Rattle.base_jobs.specs.Ready.{IsReady}
-use Rattle.base_jobs.specs.Steps.{IfUndone, is_done_step}
-use Rattle.core_timeline.specs.Rising.{LacksQueue, inserted}
-use Rattle.core_queues.specs.Queues.{Line, Marks, QueuesView, queue_count, waiting_of, parked_of, shares_of, ChangesLine, IsWithinLimits}
-use Rattle.core_queues.specs.Parks.{ChangesParks}
-use Rattle.core_queues.specs.Fronts.{IsFrontReady, JoinsAgain, ParksOrStays}
-use Rattle.core_core.specs.declared.tally.Tally.{Tally}
-use Rattle.core_core.specs.State.{CoreView, JobOut, tally_of, runtime_of, is_any}
-use Rattle.core_core.specs.Bursts.{begun, queue_held}
-use Rattle.core_core.specs.Settling.{settled_view}
-use Rattle.core_core.specs.Turns.{TakesOut}
-use Rattle.core_core.specs.Relisted.{keys_after, slips_after}
-use Rattle.core_core.specs.Whole.{SettlesStep}
-use Rattle.core_core.specs.Inside.{IsCore, KeepsCounts, KeepsSlips, IsPollable, unsettled_count, FitsTurns}
 use Rattle.core_core.proofs.Counting.{KeepsCounts-picks, KeepsCounts-yields, KeepsCounts-parks, KeepsCounts-finishes, some_inside}
 use Rattle.core_core.proofs.Entries.{is_any-push}
 use Rattle.core_core.proofs.Fits.{picked_fits, tally_fits}
@@ -32,7 +15,6 @@ use Rattle.core_core.proofs.Picking.{exists_if_waiting, first_waits, IsListed-pi
 use Rattle.core_core.proofs.Turning.{KeepsTurn-taken, KeepsTurn-free}
 use Rattle.core_core.proofs.Settling.{out_entry, held_entry_at, IsListed-again, IsListed-no_more, IsWithinTurns-settles}
 use Rattle.core_core.proofs.SlipsKept.{KeepsSlips-same, KeepsSlips-taken, KeepsSlips-inserted}
-use Rattle.base_jobs.specs.Meanings.{Meaning}
 
 module _ {J T : Type 0} (meaning : Meaning J T) where
   -- the next job goes out

@@ -1,26 +1,8 @@
 -- The first poll of a turn, from what is known inside: the head of the first queue goes out, is polled, and its poll is settled, which ends the turn or leaves it open.
-use Rattle.std.proofs.Common.{◌≡◌, ℕ, ◌+◌, ◌<◌, ◌≤◌, Bool, true, false, List, ◌∷◌, length, max, Option, Some, None, refl, sym, ap, ◌∙◌, subst, arith}
-use Rattle.std.specs.Prelude.{◌-◌, is_some, unwrap_or, slice_set}
-use Rattle.std.proofs.lemmas.List.{set-set, get_or-set_same}
-use Rattle.base_words.specs.declared.names.Key.{Key}
-use Rattle.base_words.specs.Bursts.{has_bursts}
-use Rattle.base_words.specs.Work.{number_if}
-use Rattle.base_jobs.specs.Calls.{Call}
-use Rattle.base_jobs.specs.declared.job.Step.{Step}
-use Rattle.base_jobs.specs.Meanings.{Meaning}
-use Rattle.base_jobs.specs.Steps.{is_done_step}
-use Rattle.core_timeline.specs.Rising.{IsRising, LacksQueue}
-use Rattle.core_queues.specs.Queues.{QueuesView, queue_count, waiting_of, shares_of, IsWithinLimits}
-use Rattle.core_queues.specs.Fronts.{TurnsFront}
-use Rattle.core_core.specs.declared.bursts.Bursts.{Bursts}
-use Rattle.core_core.specs.declared.bursts.OpenTurn.{OpenTurn}
-use Rattle.core_core.specs.declared.tally.Tally.{Tally}
-use Rattle.core_core.specs.State.{CoreView, JobOut, no_tally, tally_of, runtime_of, is_any, IsBounded}
-use Rattle.core_core.specs.Bursts.{begun, longer, lasted, settled_tally, queue_held}
-use Rattle.core_core.specs.Inside.{IsCore, IsListed, unsettled_count, FitsTurns}
-use Rattle.core_core.specs.Turns.{TakesOut}
-use Rattle.core_core.specs.Relisted.{keys_after, slips_after}
-use Rattle.core_core.specs.Whole.{TurnsFirst}
+use Rattle.core_core.proofs.Names.{ap, arith, begun, Bool, Bursts, Call, CoreView, false, FitsTurns, get_or-set_same, has_bursts, is_any, is_done_step, is_some, IsBounded, IsCore, IsListed, IsRising, IsWithinLimits, JobOut, Key, keys_after}
+use Rattle.core_core.proofs.Names.{LacksQueue, lasted, length, List, longer, max, Meaning, no_tally, None, number_if, OpenTurn, Option, queue_count, queue_held, QueuesView, refl, runtime_of, set-set, settled_tally, shares_of, slice_set}
+use Rattle.core_core.proofs.Names.{slips_after, Some, Step, subst, sym, TakesOut, Tally, tally_of, true, TurnsFirst, TurnsFront, unsettled_count, unwrap_or, waiting_of, ℕ, ◌+◌, ◌<◌, ◌∙◌, ◌∷◌, ◌≡◌, ◌≤◌}
+use Rattle.std.specs.Prelude.{◌-◌}
 use Rattle.core_core.proofs.Counting.{some_inside}
 use Rattle.core_core.proofs.Fits.{picked_fits, tally_fits, IsBounded-from_turns}
 use Rattle.core_core.proofs.Held.{held_none}

@@ -1,22 +1,7 @@
 -- What a wake came to, from what the queues did.
-use Rattle.std.proofs.Common.{◌≡◌, ℕ, ◌<◌, Bool, true, false, List, [], ◌∷◌, ◌++◌, length, Option, Some, refl, sym, ap, ◌∙◌, subst, arith, length-append}
-use Rattle.std.specs.Prelude.{◌||◌, nat_lt, All, slice_index_or, slice_set}
-use Rattle.std.proofs.lemmas.Bool.{lt-ltb, true≢false}
-use Rattle.std.proofs.lemmas.List.Elements.{All-push}
-use Rattle.base_words.specs.Charge.{placed}
-use Rattle.base_words.specs.declared.names.JobId.{JobId}
-use Rattle.base_words.specs.declared.names.Key.{Key}
-use Rattle.base_words.specs.Names.{is_name, is_number}
-use Rattle.base_words.proofs.NameLemmas.{one_name}
-use Rattle.base_jobs.specs.Meanings.{Meaning}
-use Rattle.base_jobs.specs.Ready.{IsReady}
-use Rattle.core_queues.specs.Queues.{Line, Marks, Parks, QueuesView, waiting_of, queue_count, awake}
-use Rattle.core_queues.specs.Waking.{WakesParked}
-use Rattle.core_queues.proofs.QueuesLemmas.{queue_exists_where_parked}
-use Rattle.core_core.specs.declared.tally.Tally.{Tally}
-use Rattle.core_core.specs.State.{CoreView, JobOut, is_any, is_working, queue_out}
-use Rattle.core_core.specs.Inside.{IsCore, IsPollable}
-use Rattle.core_core.specs.Waking.{name_out, is_out, EndsPark}
+use Rattle.core_core.proofs.Names.{All, All-push, ap, arith, awake, Bool, CoreView, EndsPark, false, is_any, is_name, is_number, is_out, is_working, IsCore, IsPollable, IsReady, JobId, JobOut, Key, length, length-append, Line, List, lt-ltb}
+use Rattle.core_core.proofs.Names.{Marks, Meaning, name_out, nat_lt, one_name, Option, Parks, placed, queue_count, queue_exists_where_parked, queue_out, QueuesView, refl, slice_index_or, slice_set, Some, subst, sym, Tally, true, true≢false}
+use Rattle.core_core.proofs.Names.{waiting_of, WakesParked, ℕ, [], ◌++◌, ◌<◌, ◌||◌, ◌∙◌, ◌∷◌, ◌≡◌}
 use Rattle.core_core.proofs.Entered.{stays_placed, is_placed}
 use Rattle.core_core.proofs.Moved.{is_any-middle, All-middle}
 

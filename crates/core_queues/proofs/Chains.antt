@@ -1,10 +1,6 @@
 -- A chain of entries: what stays as entries change, and what its head and its tail show.
-use Rattle.std.proofs.Common.{◌≡◌, ℕ, zero, suc, ◌+◌, ◌<◌, [], ◌∷◌, ◌++◌, length, Option, Some, None, refl, sym, ap, ◌∙◌, append_assoc, arith}
-use Rattle.std.specs.Prelude.{IsSome}
-use Rattle.std.proofs.lemmas.List.{length-append}
-use Rattle.core_queues.specs.declared.waiting.Waiting.{Waiting}
+use Rattle.core_queues.proofs.Names.{ap, append_assoc, arith, chain, IsSome, key_at, length, length-append, next_of, None, Option, refl, shown, Some, suc, sym, Waiting, zero, ℕ, [], ◌++◌, ◌+◌, ◌<◌, ◌∙◌, ◌∷◌, ◌≡◌}
 use Rattle.core_queues.specs.View.{Line}
-use Rattle.core_queues.specs.Linked.{next_of, shown, key_at, chain}
 
 module _ {J : Type 0} where
   append_nil_right : (line : Line J) → line ++ [] ≡ line

@@ -1,17 +1,9 @@
 -- What it takes that one line changes, that a queue gets shares or a mode, and that there is one more queue.
-use Rattle.std.proofs.Common.{◌≡◌, ℕ, zero, suc, ◌+◌, ◌<◌, ◌≤◌, List, [], ◌∷◌, ◌++◌, length, map, set, Bool, true, false, Option, Some, None, refl, sym, ap, ◌∙◌, ⊎_elim, subst, arith}
-use Rattle.std.specs.Prelude.{IsSome, is_some, count_by}
-use Rattle.std.proofs.lemmas.Bool.{cases_lt, cases_eq}
-use Rattle.std.proofs.lemmas.List.{length_push, length-set, length-map, get_or_push, get_or_append_left, get_or_past, get_or-set_same, get_or-set_other}
-use Rattle.std.proofs.lemmas.List.Sums.{sum_by-set, sum_by-cons, sum_by_push}
-use Rattle.slab.specs.Slab.{Slab, get, slab_len}
-use Rattle.base_words.specs.declared.order.Mode.{Mode}
-use Rattle.core_queues.specs.declared.waiting.Waiting.{Waiting}
-use Rattle.core_queues.specs.declared.line.Line.{Line}
-use Rattle.core_queues.specs.declared.line.Queue.{Queue}
+use Rattle.core_queues.proofs.Names.{AddsQueue, ap, arith, Bool, cases_eq, cases_lt, chain, ChangesLine, ChangesMode, ChangesParks, ChangesShares, count_by, false, get, get_or-set_other, get_or-set_same, get_or_append_left, get_or_past}
+use Rattle.core_queues.proofs.Names.{get_or_push, is_some, IsKept, IsLinked, IsSome, key_at, length, length-map, length_push, Line, line_at, List, map, Mode, no_line, no_queue, None, Option, Queue, queue_at, refl, set, shown_parked, side}
+use Rattle.core_queues.proofs.Names.{Slab, slab_len, Some, Spot, subst, suc, sum_by-cons, sum_by-set, sum_by_push, sym, true, Waiting, zero, ℕ, [], ⊎_elim, ◌++◌, ◌+◌, ◌<◌, ◌∙◌, ◌∷◌, ◌≡◌, ◌≤◌}
+use Rattle.std.proofs.lemmas.List.{length-set}
 use Rattle.core_queues.specs.View.{Line as Says}
-use Rattle.core_queues.specs.Queues.{ChangesLine, ChangesParks, ChangesShares, ChangesMode, AddsQueue}
-use Rattle.core_queues.specs.Linked.{Spot, no_line, no_queue, side, queue_at, line_at, key_at, chain, shown_parked, IsLinked, IsKept}
 use Rattle.core_queues.proofs.Spots.{waits, parks, other_side, placed, ChangesOne-placed, shares-placed, mode-placed, length-placed, read-set}
 use Rattle.core_queues.proofs.Views.{line_says, alone, queue_count-view, shares_of-view, mode_of-view, waiting_of-view, parked_of-view, held_count-view}
 

@@ -1,10 +1,5 @@
 -- A line that grows at its tail, and one that loses its head.
-use Rattle.std.proofs.Common.{◌≡◌, ℕ, suc, ◌<◌, ◌≤◌, ◌⊎◌, ◌++◌, inl, inr, Option, Some, refl, sym, ap, ◌∙◌, subst, arith}
-use Rattle.std.specs.Prelude.{IsSome}
-use Rattle.std.proofs.lemmas.Bool.{cases_lt}
-use Rattle.core_queues.specs.declared.waiting.Waiting.{Waiting}
-use Rattle.core_queues.specs.declared.line.Line.{Line}
-use Rattle.core_queues.specs.Linked.{Spot, next_of, shown, key_at, chain, IsLinked}
+use Rattle.core_queues.proofs.Names.{ap, arith, cases_lt, chain, inl, inr, IsLinked, IsSome, key_at, Line, next_of, Option, refl, shown, Some, Spot, subst, suc, sym, Waiting, ℕ, ◌++◌, ◌<◌, ◌∙◌, ◌≡◌, ◌≤◌, ◌⊎◌}
 use Rattle.core_queues.proofs.Spots.{ChangesOne, cases_spot}
 use Rattle.core_queues.proofs.Chains.{key_at-second, chain-head}
 use Rattle.core_queues.proofs.Links.{KeepsLines, KeepsLines-entries, Grows, key_at-grown}

@@ -1,15 +1,7 @@
 -- Each entry of the slab stands in a line: there are as many places in the lines as entries, and no two places have one key.
-use Rattle.std.proofs.Common.{◌≡◌, ◌⊎◌, ℕ, zero, suc, ◌+◌, ◌<◌, ◌≤◌, ◌==◌, Bool, true, false, List, length, take, Option, None, cond, refl, sym, ap, ◌∙◌, subst, ⊎_elim, arith}
-use Rattle.std.specs.Prelude.{is_some, IsSome, sum_by, slice_index_or}
-use Rattle.std.proofs.lemmas.Bool.{cases_eq, cases_lt, eq-eqb, ne_eqb}
-use Rattle.std.proofs.lemmas.List.{take_all}
-use Rattle.std.proofs.lemmas.List.Sums.{sum_by_more}
-use Rattle.slab.specs.Slab.{Slab, get, slab_len}
-use Rattle.slab.proofs.SlabLemmas.{ContainsKey-within}
-use Rattle.core_queues.specs.declared.waiting.Waiting.{Waiting}
-use Rattle.core_queues.specs.declared.line.Line.{Line}
-use Rattle.core_queues.specs.declared.line.Queue.{Queue}
-use Rattle.core_queues.specs.Linked.{Spot, no_queue, queue_at, line_at, job_count, key_at, IsLinked}
+use Rattle.core_queues.proofs.Names.{ap, arith, Bool, cases_eq, cases_lt, cond, ContainsKey-within, eq-eqb, false, get, is_some, IsLinked, IsSome, job_count, key_at, length, Line, line_at, List, ne_eqb, no_queue, None, Option, Queue}
+use Rattle.core_queues.proofs.Names.{queue_at, refl, Slab, slab_len, slice_index_or, Spot, subst, suc, sum_by_more, sym, take, take_all, true, Waiting, zero, ℕ, ⊎_elim, ◌+◌, ◌<◌, ◌==◌, ◌∙◌, ◌≡◌, ◌≤◌, ◌⊎◌}
+use Rattle.std.specs.Prelude.{sum_by}
 use Rattle.core_queues.proofs.Spots.{waits, parks}
 
 -- the key is that of a place of a line

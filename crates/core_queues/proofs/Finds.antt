@@ -1,19 +1,8 @@
 -- How jobs are found, as lines change.
-use Rattle.std.proofs.Common.{◌≡◌, ◌⊎◌, ℕ, zero, suc, ◌+◌, ◌-◌, ◌<◌, ◌≤◌, Bool, true, false, List, [], ◌∷◌, length, set, replicate, inl, inr, Option, Some, None, refl, sym, ap, ◌∙◌, subst, arith}
-use Rattle.std.specs.Prelude.{is_some, IsSome, slice_index_or}
-use Rattle.std.proofs.lemmas.Bool.{cases_eq, cases_lt}
-use Rattle.std.proofs.lemmas.List.{length-set, length-replicate}
-use Rattle.slab.specs.Slab.{Slab, get, ContainsKey}
-use Rattle.base_words.specs.declared.names.JobId.{JobId}
-use Rattle.core_index.specs.Buckets.{Names, name_at}
-use Rattle.core_queues.specs.declared.waiting.Waiting.{Waiting}
-use Rattle.core_queues.specs.declared.seats.Seat.{Seat}
-use Rattle.core_queues.specs.declared.line.Line.{Line}
-use Rattle.core_queues.specs.declared.line.Queue.{Queue}
-use Rattle.core_queues.specs.Linked.{Spot, no_line, queue_at, line_at, next_of, key_at, IsKept}
-use Rattle.core_queues.specs.Entries.{Relinks, Appends, Requeues, MovesHead, Renews}
-use Rattle.core_queues.specs.Lines.{MovesOut, JoinsLines}
-use Rattle.core_queues.specs.Seats.{no_seat, seat_at, parked_counts, parked_keys, name_of, AreSeated, AreFound, LeavesSeat, Vacates}
+use Rattle.core_queues.proofs.Names.{ap, Appends, AreFound, AreSeated, arith, Bool, cases_eq, cases_lt, ContainsKey, false, get, inl, inr, is_some, IsKept, IsSome, JobId, JoinsLines, key_at, LeavesSeat, length, length-replicate, Line}
+use Rattle.core_queues.proofs.Names.{line_at, List, MovesHead, MovesOut, name_at, name_of, Names, next_of, no_line, no_seat, None, Option, parked_counts, parked_keys, Queue, queue_at, refl, Relinks, Renews, replicate, Requeues, Seat}
+use Rattle.core_queues.proofs.Names.{seat_at, set, Slab, slice_index_or, Some, Spot, subst, suc, sym, true, Vacates, Waiting, zero, ℕ, [], ◌+◌, ◌-◌, ◌<◌, ◌∙◌, ◌∷◌, ◌≡◌, ◌≤◌, ◌⊎◌}
+use Rattle.std.proofs.lemmas.List.{length-set}
 use Rattle.core_queues.proofs.Spots.{waits, parks, other_side, placed, ChangesOne-placed, length-placed}
 use Rattle.core_queues.proofs.Joins.{joined}
 use Rattle.core_queues.proofs.Leaves.{Leaves}

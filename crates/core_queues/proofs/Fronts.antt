@@ -1,25 +1,12 @@
 -- The head of a line: it is polled where it stands, and goes to the tail of its own line or of another one by links alone.
-use Rattle.std.proofs.Common.{◌≡◌, ◌⊎◌, ℕ, ◌+◌, ◌-◌, ◌<◌, Bool, true, false, List, [], ◌∷◌, length, inl, inr, cond, Option, Some, None, refl, sym, ap, ◌∙◌, subst, arith}
-use Rattle.std.specs.Prelude.{is_some, IsSome, IfSome, slice_set}
-use Rattle.std.proofs.lemmas.List.Sums.{sum_by-set}
-use Rattle.slab.specs.Slab.{Slab, get, slab_len, ContainsKey, Updates}
-use Rattle.slab.proofs.SlabLemmas.{Updates-set, ContainsKey-within}
-use Rattle.base_jobs.specs.Meanings.{Meaning}
-use Rattle.base_jobs.specs.Ready.{IsReady}
-use Rattle.core_queues.specs.declared.waiting.Waiting.{Waiting}
-use Rattle.core_queues.specs.declared.line.Line.{Line}
-use Rattle.core_queues.specs.declared.line.Queue.{Queue}
-use Rattle.core_queues.specs.View.{waiting_of}
+use Rattle.core_queues.proofs.Names.{ap, Appends, AreAtRest, arith, Bool, ChangesLine, cond, ContainsKey, ContainsKey-within, false, get, IfSome, inl, inr, is_some, IsFrontReady, IsKept, IsReady, IsSome, length, Line, line_at, List}
+use Rattle.core_queues.proofs.Names.{Meaning, MovesHead, None, Option, Queue, refl, Relinks, Renews, Requeues, shown, Slab, slab_len, slice_set, Some, subst, sum_by-set, sym, true, Updates, Updates-set, Waiting, waiting_of, ℕ, [], ◌+◌, ◌-◌}
+use Rattle.core_queues.proofs.Names.{◌<◌, ◌∙◌, ◌∷◌, ◌≡◌, ◌⊎◌}
 use Rattle.core_queues.specs.View.{Line as Says}
-use Rattle.core_queues.specs.Queues.{ChangesLine}
-use Rattle.core_queues.specs.Linked.{line_at, shown, IsKept}
-use Rattle.core_queues.specs.Entries.{Appends, Requeues, MovesHead, Renews, Relinks}
-use Rattle.core_queues.specs.Fronts.{IsFrontReady}
 use Rattle.core_queues.proofs.Spots.{waits}
 use Rattle.core_queues.proofs.Changes.{ChangesLine-of}
 use Rattle.core_queues.proofs.Leaves.{Leaves}
 use Rattle.core_queues.proofs.Renewals.{Rewrites, IsKept-renewed, Writes-renewed, says-at, behind_place}
-use Rattle.core_queues.specs.Rests.{AreAtRest}
 use Rattle.core_queues.proofs.Rests.{false_true, AreAtRest-writes}
 use Rattle.core_queues.proofs.Views.{alone, before_some, waiting_of-view, head_filled, length-waiting_of}
 

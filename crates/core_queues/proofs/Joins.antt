@@ -1,15 +1,6 @@
 -- A job comes behind the tail of a line.
-use Rattle.std.proofs.Common.{◌≡◌, ◌⊎◌, ℕ, suc, ◌+◌, ◌<◌, List, [], ◌∷◌, ◌++◌, length, map, inl, inr, Some, sym, ap, ◌∙◌, subst, arith}
-use Rattle.std.specs.Prelude.{is_some}
-use Rattle.std.proofs.lemmas.List.{length_push, map-append}
-use Rattle.slab.specs.Slab.{Slab, get, slab_len}
-use Rattle.core_queues.specs.declared.waiting.Waiting.{Waiting}
-use Rattle.core_queues.specs.declared.line.Line.{Line}
-use Rattle.core_queues.specs.declared.line.Queue.{Queue}
-use Rattle.core_queues.specs.View.{waiting_of, parked_of, held_count}
-use Rattle.core_queues.specs.Queues.{ChangesLine, ChangesParks}
-use Rattle.core_queues.specs.Linked.{Spot, line_at, next_of, shown, shown_parked, key_at, chain, IsLinked, IsKept}
-use Rattle.core_queues.specs.Entries.{Relinks, Inserts, Appends}
+use Rattle.core_queues.proofs.Names.{ap, Appends, arith, chain, ChangesLine, ChangesParks, get, held_count, inl, inr, Inserts, is_some, IsKept, IsLinked, key_at, length, length_push, Line, line_at, List, map, map-append, next_of, parked_of}
+use Rattle.core_queues.proofs.Names.{Queue, Relinks, shown, shown_parked, Slab, slab_len, Some, Spot, subst, suc, sym, Waiting, waiting_of, ℕ, [], ◌++◌, ◌+◌, ◌<◌, ◌∙◌, ◌∷◌, ◌≡◌, ◌⊎◌}
 use Rattle.core_queues.proofs.Spots.{waits, parks, placed, ChangesOne-placed, job_count-placed, length-placed}
 use Rattle.core_queues.proofs.Links.{KeepsLines, KeepsLines-twice, KeepsLines-insert, KeepsLines-relink, IsLinked-kept, chain-kept, not_in_line, Grows, chain-grown}
 use Rattle.core_queues.proofs.Ends.{IsLinked-grown}

@@ -1,12 +1,6 @@
 -- The job at the head of a line leaves.
-use Rattle.std.proofs.Common.{◌≡◌, ℕ, ◌+◌, ◌-◌, ◌<◌, List, ◌++◌, length, Some, None, refl, sym, ap, ◌∙◌, subst, arith}
-use Rattle.slab.specs.Slab.{Slab, get, slab_len, Updates}
-use Rattle.core_queues.specs.declared.waiting.Waiting.{Waiting}
-use Rattle.core_queues.specs.declared.line.Line.{Line}
-use Rattle.core_queues.specs.declared.line.Queue.{Queue}
-use Rattle.core_queues.specs.View.{waiting_of, held_count}
-use Rattle.core_queues.specs.Queues.{ChangesLine}
-use Rattle.core_queues.specs.Linked.{Spot, line_at, next_of, shown, chain, IsKept}
+use Rattle.core_queues.proofs.Names.{ap, arith, chain, ChangesLine, get, held_count, IsKept, length, Line, line_at, List, next_of, None, Queue, refl, shown, Slab, slab_len, Some, Spot, subst, sym, Updates, Waiting, waiting_of, ℕ, ◌++◌, ◌+◌}
+use Rattle.core_queues.proofs.Names.{◌-◌, ◌<◌, ◌∙◌, ◌≡◌}
 use Rattle.core_queues.proofs.Spots.{waits, placed, ChangesOne-placed, job_count-placed, length-placed, shares-placed, mode-placed}
 use Rattle.core_queues.proofs.Links.{KeepsLines, IsLinked-kept, chain-kept}
 use Rattle.core_queues.proofs.Ends.{Shrinks, IsLinked-shrunk, KeepsLines-take, chain-shrunk}

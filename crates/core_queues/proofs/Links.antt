@@ -1,10 +1,5 @@
 -- The lines of all queues: as an entry changes that no line or one tail names, as a line grows at its tail, and as it loses its head.
-use Rattle.std.proofs.Common.{◌≡◌, ℕ, zero, suc, ◌<◌, ◌⊎◌, inl, inr, Option, Some, None, refl, sym, ap, ◌∙◌, subst, arith}
-use Rattle.std.specs.Prelude.{IsSome}
-use Rattle.std.proofs.lemmas.Bool.{cases_eq}
-use Rattle.core_queues.specs.declared.waiting.Waiting.{Waiting}
-use Rattle.core_queues.specs.declared.line.Line.{Line}
-use Rattle.core_queues.specs.Linked.{Spot, next_of, shown, key_at, chain, IsLinked}
+use Rattle.core_queues.proofs.Names.{ap, arith, cases_eq, chain, inl, inr, IsLinked, IsSome, key_at, Line, next_of, None, Option, refl, shown, Some, Spot, subst, suc, sym, Waiting, zero, ℕ, ◌<◌, ◌∙◌, ◌≡◌, ◌⊎◌}
 use Rattle.core_queues.proofs.Chains.{key_at-same, chain-same, IsSome-shown}
 
 module _ {J : Type 0} where

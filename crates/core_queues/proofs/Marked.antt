@@ -1,12 +1,5 @@
 -- An entry that is marked leaves each entry where it was.
-use Rattle.std.proofs.Common.{◌≡◌, ◌⊎◌, ℕ, Bool, inl, inr, Option, Some, sym, ap, ◌∙◌, subst}
-use Rattle.std.specs.Prelude.{is_some}
-use Rattle.std.proofs.lemmas.Bool.{cases_eq}
-use Rattle.slab.specs.Slab.{Slab, ContainsKey}
-use Rattle.core_queues.specs.declared.waiting.Waiting.{Waiting}
-use Rattle.core_queues.specs.declared.line.Line.{Line}
-use Rattle.core_queues.specs.Entries.{Relinks, Starts}
-use Rattle.core_queues.specs.Lines.{IsLastOr, Skips}
+use Rattle.core_queues.proofs.Names.{ap, Bool, cases_eq, ContainsKey, inl, inr, is_some, IsLastOr, Line, Option, Relinks, Skips, Slab, Some, Starts, subst, sym, Waiting, ℕ, ◌∙◌, ◌≡◌, ◌⊎◌}
 
 -- what stands under one key is one entry
 pub one_entry : {J : Type 0} (found : Option (Waiting J)) (one other : Waiting J) → found ≡ Some one → found ≡ Some other → one ≡ other

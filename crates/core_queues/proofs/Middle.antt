@@ -1,10 +1,5 @@
 -- An entry that isn't the head leaves its line: the one before it gets its next key.
-use Rattle.std.proofs.Common.{◌≡◌, ◌⊎◌, ℕ, suc, ◌+◌, ◌-◌, ◌<◌, ◌≤◌, ◌++◌, inl, inr, Option, Some, refl, sym, ap, ◌∙◌, subst, arith}
-use Rattle.std.specs.Prelude.{is_some, IsSome}
-use Rattle.std.proofs.lemmas.Bool.{cases_eq, cases_lt}
-use Rattle.core_queues.specs.declared.waiting.Waiting.{Waiting}
-use Rattle.core_queues.specs.declared.line.Line.{Line}
-use Rattle.core_queues.specs.Linked.{Spot, next_of, shown, key_at, chain, IsLinked}
+use Rattle.core_queues.proofs.Names.{ap, arith, cases_eq, cases_lt, chain, inl, inr, is_some, IsLinked, IsSome, key_at, Line, next_of, Option, refl, shown, Some, Spot, subst, suc, sym, Waiting, ℕ, ◌++◌, ◌+◌, ◌-◌, ◌<◌, ◌∙◌, ◌≡◌, ◌≤◌, ◌⊎◌}
 use Rattle.core_queues.proofs.Chains.{key_at-same, key_at-add, chain-same, chain-add}
 use Rattle.core_queues.proofs.Spots.{ChangesOne, cases_spot}
 use Rattle.core_queues.proofs.Places.{IsLinked-comes}

@@ -1,15 +1,7 @@
 -- A name that no entry has stands in no line.
-use Rattle.std.proofs.Common.{◌≡◌, ℕ, zero, suc, ◌<◌, ◌||◌, Bool, true, false, List, [], ◌∷◌, ◌++◌, map, Option, Some, None, refl, sym, ap, ◌∙◌, arith}
-use Rattle.slab.specs.Slab.{Slab, get}
-use Rattle.base_words.specs.declared.names.JobId.{JobId}
-use Rattle.base_words.specs.Names.{same_name, among}
-use Rattle.base_words.proofs.NameLemmas.{one_name}
-use Rattle.core_queues.specs.declared.waiting.Waiting.{Waiting}
-use Rattle.core_queues.specs.declared.line.Line.{Line}
-use Rattle.core_queues.specs.declared.line.Queue.{Queue}
+use Rattle.core_queues.proofs.Names.{among, ap, arith, Bool, chain, false, get, HoldsNone, JobId, key_at, Line, line_at, List, map, None, one_name, Option, Queue, refl, same_name, shown, shown_parked, Slab, Some, Spot, suc, sym, true}
+use Rattle.core_queues.proofs.Names.{Waiting, zero, ℕ, [], ◌++◌, ◌<◌, ◌||◌, ◌∙◌, ◌∷◌, ◌≡◌}
 use Rattle.core_queues.specs.View.{Line as Says}
-use Rattle.core_queues.specs.Linked.{Spot, line_at, key_at, chain, shown, shown_parked}
-use Rattle.core_queues.specs.Waking.{HoldsNone}
 use Rattle.core_queues.proofs.Spots.{waits, parks}
 use Rattle.core_queues.proofs.Views.{alone, line_says, waiting_of-view, parked_of-view}
 

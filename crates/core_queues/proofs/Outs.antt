@@ -1,11 +1,5 @@
 -- A job that goes from its place in one line to the tail of another, seen as one that leaves the slab and comes in again.
-use Rattle.std.proofs.Common.{◌≡◌, ◌⊎◌, ℕ, ◌+◌, ◌<◌, false, inl, inr, Some, refl, sym, ap, ◌∙◌, arith}
-use Rattle.std.proofs.lemmas.Bool.{cases_eq}
-use Rattle.slab.specs.Slab.{Slab, get, slab_len}
-use Rattle.core_queues.specs.declared.waiting.Waiting.{Waiting}
-use Rattle.core_queues.specs.declared.line.Line.{Line}
-use Rattle.core_queues.specs.Entries.{Relinks, Appends}
-use Rattle.core_queues.specs.Lines.{MovesOut, IsLastOr}
+use Rattle.core_queues.proofs.Names.{ap, Appends, arith, cases_eq, false, get, inl, inr, IsLastOr, Line, MovesOut, refl, Relinks, Slab, slab_len, Some, sym, Waiting, ℕ, ◌+◌, ◌<◌, ◌∙◌, ◌≡◌, ◌⊎◌}
 use Rattle.core_queues.proofs.Fronts.{removed, removes, marked, removed-len}
 use Rattle.core_queues.proofs.Takes.{TakesOut}
 

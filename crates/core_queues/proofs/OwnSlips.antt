@@ -1,12 +1,8 @@
 -- The slips of queues, each at the place of its own queue.
-use Rattle.std.proofs.Common.{◌≡◌, ℕ, zero, suc, ◌+◌, ◌<◌, ◌≤◌, List, [], ◌∷◌, ◌++◌, length, map, get_or, set, Option, Some, None, refl, sym, ap, ◌∙◌, inl, inr, arith}
-use Rattle.std.specs.Prelude.{◌⊎◌, Bool, is_some, IfSome, true, false}
-use Rattle.std.proofs.lemmas.Bool.{cases_eq, cases_lt}
-use Rattle.std.proofs.lemmas.List.{length_push, length-set, get_or_push, get_or_append_left, get_or_past, get_or_read, get_or-map, map-set, get_or-set_same, get_or-set_other}
-use Rattle.slab.specs.Slab.{Slab}
-use Rattle.core_queues.specs.declared.waiting.Waiting.{Waiting}
-use Rattle.core_queues.specs.declared.line.Queue.{Queue}
-use Rattle.core_queues.specs.Linked.{linked_view, HasOwnSlips}
+use Rattle.core_queues.proofs.Names.{ap, arith, cases_eq, cases_lt, get_or, get_or-map, get_or-set_other, get_or-set_same, get_or_append_left, get_or_past, get_or_push, get_or_read, HasOwnSlips, IfSome, inl, inr, is_some, length}
+use Rattle.core_queues.proofs.Names.{length_push, linked_view, List, map, map-set, None, Option, Queue, refl, set, Slab, Some, suc, sym, Waiting, zero, ℕ, [], ◌++◌, ◌+◌, ◌<◌, ◌∙◌, ◌∷◌, ◌≡◌, ◌≤◌}
+use Rattle.std.specs.Prelude.{◌⊎◌, Bool, true, false}
+use Rattle.std.proofs.lemmas.List.{length-set}
 
 -- the slip of the first queue
 pub HasOwnSlips-one : (places : ℕ) → 256 ≤ places → HasOwnSlips 1 places (Some 0 ∷ [])

@@ -1,13 +1,6 @@
 -- The keys of parked jobs, as lines change.
-use Rattle.std.proofs.Common.{◌≡◌, ◌⊎◌, ℕ, suc, ◌+◌, ◌<◌, Bool, List, length, inl, inr, refl, sym, ap, ◌∙◌, subst, arith}
-use Rattle.std.proofs.lemmas.Bool.{cases_eq}
-use Rattle.slab.specs.Slab.{Slab, get}
-use Rattle.core_queues.specs.declared.waiting.Waiting.{Waiting}
-use Rattle.core_queues.specs.declared.line.Line.{Line}
-use Rattle.core_queues.specs.declared.line.Queue.{Queue}
-use Rattle.core_queues.specs.Linked.{Spot, line_at, key_at, IsKept}
-use Rattle.core_queues.specs.Entries.{Appends, Requeues}
-use Rattle.core_queues.specs.Seats.{parked_counts, parked_keys}
+use Rattle.core_queues.proofs.Names.{ap, Appends, arith, Bool, cases_eq, get, inl, inr, IsKept, key_at, length, Line, line_at, List, parked_counts, parked_keys, Queue, refl, Requeues, Slab, Spot, subst, suc, sym, Waiting, ℕ, ◌+◌, ◌<◌, ◌∙◌}
+use Rattle.core_queues.proofs.Names.{◌≡◌, ◌⊎◌}
 use Rattle.core_queues.proofs.Chains.{key_at-same}
 use Rattle.core_queues.proofs.Spots.{waits, parks, other_side, placed, ChangesOne-placed, length-placed}
 use Rattle.core_queues.proofs.Links.{KeepsLines, key_at-grown}

@@ -1,10 +1,5 @@
 -- Lines whose places come from the places of other lines: two lines become one, and a line loses an entry that isn't its head.
-use Rattle.std.proofs.Common.{◌≡◌, ◌⊎◌, ℕ, zero, suc, ◌+◌, ◌-◌, ◌<◌, ◌≤◌, ◌++◌, inl, inr, Option, refl, sym, ap, ◌∙◌, subst, arith}
-use Rattle.std.specs.Prelude.{IsSome}
-use Rattle.std.proofs.lemmas.Bool.{cases_lt}
-use Rattle.core_queues.specs.declared.waiting.Waiting.{Waiting}
-use Rattle.core_queues.specs.declared.line.Line.{Line}
-use Rattle.core_queues.specs.Linked.{Spot, shown, key_at, chain, IsLinked}
+use Rattle.core_queues.proofs.Names.{ap, arith, cases_lt, chain, inl, inr, IsLinked, IsSome, key_at, Line, Option, refl, shown, Spot, subst, suc, sym, Waiting, zero, ℕ, ◌++◌, ◌+◌, ◌-◌, ◌<◌, ◌∙◌, ◌≡◌, ◌≤◌, ◌⊎◌}
 use Rattle.core_queues.proofs.Chains.{key_at-add, chain-add}
 use Rattle.core_queues.proofs.Spots.{cases_spot}
 

@@ -1,9 +1,7 @@
 -- What callers need of the words for queues.
-use Rattle.std.proofs.Common.{◌≡◌, ℕ, ◌+◌, ◌<◌, ◌≤◌, List, [], ◌∷◌, length, sum_by, get_or, suc, refl, ap, ⊎_elim, arith}
-use Rattle.std.proofs.lemmas.Bool.{cases_lt}
-use Rattle.std.proofs.lemmas.List.{get_or_past, nil_from_length}
-use Rattle.std.proofs.lemmas.List.Sums.{get_or-le-sum_by, sum_by-cons}
-use Rattle.core_queues.specs.View.{QueueView, QueuesView, no_queue, queue_count, shares_of, waiting_of, parked_of, held_in, held_count}
+use Rattle.core_queues.proofs.Names.{ap, arith, cases_lt, get_or, get_or-le-sum_by, get_or_past, held_count, held_in, length, List, nil_from_length, parked_of, queue_count, QueuesView, QueueView, refl, shares_of, suc, sum_by, sum_by-cons}
+use Rattle.core_queues.proofs.Names.{waiting_of, ℕ, [], ⊎_elim, ◌+◌, ◌<◌, ◌∷◌, ◌≡◌, ◌≤◌}
+use Rattle.core_queues.specs.View.{no_queue}
 
 module _ {J : Type 0} where
   -- no job waits in a queue that doesn't exist

@@ -1,14 +1,7 @@
 -- An entry becomes another one with the same next key: its job was polled, or its marks change.
-use Rattle.std.proofs.Common.{◌≡◌, ◌⊎◌, ℕ, suc, ◌+◌, ◌<◌, List, ◌++◌, length, inl, inr, Option, Some, refl, sym, ap, ◌∙◌, subst, arith}
-use Rattle.std.specs.Prelude.{is_some, IsSome}
-use Rattle.std.proofs.lemmas.Bool.{cases_eq}
-use Rattle.std.proofs.lemmas.List.{length-append}
-use Rattle.slab.specs.Slab.{Slab, get, slab_len, Updates}
-use Rattle.core_queues.specs.declared.waiting.Waiting.{Waiting}
-use Rattle.core_queues.specs.declared.line.Line.{Line}
-use Rattle.core_queues.specs.declared.line.Queue.{Queue}
+use Rattle.core_queues.proofs.Names.{ap, arith, cases_eq, chain, get, inl, inr, is_some, IsKept, IsLinked, IsSome, key_at, length, length-append, Line, line_at, List, next_of, Option, Queue, refl, shown, Slab, slab_len, Some, Spot, subst}
+use Rattle.core_queues.proofs.Names.{suc, sym, Updates, Waiting, ℕ, ◌++◌, ◌+◌, ◌<◌, ◌∙◌, ◌≡◌, ◌⊎◌}
 use Rattle.core_queues.specs.View.{Line as Says}
-use Rattle.core_queues.specs.Linked.{Spot, line_at, next_of, shown, key_at, chain, IsLinked, IsKept}
 use Rattle.core_queues.proofs.Chains.{key_at-same, key_at-add, chain-same, chain-at}
 use Rattle.core_queues.proofs.Changes.{Writes}
 

@@ -1,12 +1,6 @@
 -- Parked jobs stay marked as started and with no wake, as lines change.
-use Rattle.std.proofs.Common.{◌≡◌, ◌⊎◌, zero, suc, true, false, List, [], ◌∷◌, ◌++◌, map, drop, inl, inr, refl, sym, ap, ◌∙◌, subst}
-use Rattle.slab.specs.Slab.{Slab, get}
-use Rattle.core_queues.specs.declared.waiting.Waiting.{Waiting}
-use Rattle.core_queues.specs.declared.line.Queue.{Queue}
-use Rattle.core_queues.specs.View.{Marks, Line, awake}
-use Rattle.base_words.specs.declared.names.JobId.{JobId}
-use Rattle.core_queues.specs.Linked.{Spot, shown_parked, chain}
-use Rattle.core_queues.specs.Rests.{IsAtRest, AreAtRest}
+use Rattle.core_queues.proofs.Names.{ap, AreAtRest, awake, chain, drop, false, get, inl, inr, IsAtRest, JobId, List, map, Marks, Queue, refl, shown_parked, Slab, Spot, subst, suc, sym, true, Waiting, zero, [], ◌++◌, ◌∙◌, ◌∷◌, ◌≡◌, ◌⊎◌}
+use Rattle.core_queues.specs.View.{Line}
 use Rattle.core_queues.proofs.Spots.{parks, cases_spot}
 use Rattle.core_queues.proofs.Changes.{Writes}
 use Rattle.core_queues.proofs.Views.{line_says}

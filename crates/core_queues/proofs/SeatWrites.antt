@@ -1,11 +1,7 @@
 -- The seats as one is left, and the one behind it is told the key before it.
-use Rattle.std.proofs.Common.{◌≡◌, ◌⊎◌, ℕ, suc, ◌+◌, ◌<◌, false, List, length, set, inl, inr, refl, sym, ap, ◌∙◌, arith}
-use Rattle.std.specs.Prelude.{slice_index_or}
-use Rattle.std.proofs.lemmas.Bool.{cases_eq}
-use Rattle.std.proofs.lemmas.List.{get_or_read, get_or-set_same, get_or-set_other, length-set}
-use Rattle.core_queues.specs.declared.seats.Seat.{Seat}
-use Rattle.core_queues.specs.declared.line.Line.{Line}
-use Rattle.core_queues.specs.Seats.{no_seat, seat_at, LeavesSeat, Vacates}
+use Rattle.core_queues.proofs.Names.{ap, arith, cases_eq, false, get_or-set_other, get_or-set_same, get_or_read, inl, inr, LeavesSeat, length, Line, List, no_seat, refl, Seat, seat_at, set, slice_index_or, suc, sym, Vacates, ℕ, ◌+◌, ◌<◌}
+use Rattle.core_queues.proofs.Names.{◌∙◌, ◌≡◌, ◌⊎◌}
+use Rattle.std.proofs.lemmas.List.{length-set}
 
 -- a seat that was read
 pub seat_read : (seats : List Seat) (key : ℕ) (seat : Seat) → key < length seats → seat ≡ slice_index_or seats key seat → seat_at seats key ≡ seat

@@ -1,10 +1,7 @@
 -- The seats of parked jobs, as one comes behind the others, as one leaves, and as all of a queue do.
-use Rattle.std.proofs.Common.{◌≡◌, ◌⊎◌, ℕ, zero, suc, ◌+◌, ◌<◌, ◌≤◌, true, false, List, length, set, inl, inr, refl, sym, ap, ◌∙◌, subst, ⊎_elim, arith}
-use Rattle.std.proofs.lemmas.Bool.{cases_eq, cases_lt}
-use Rattle.std.proofs.lemmas.List.{get_or-set_same, get_or-set_other, length-set}
-use Rattle.core_queues.specs.declared.seats.Seat.{Seat}
-use Rattle.core_queues.specs.declared.line.Line.{Line}
-use Rattle.core_queues.specs.Seats.{no_seat, seat_at, HasSeat, HasPlace, AreSeated, LeavesSeat, Vacates}
+use Rattle.core_queues.proofs.Names.{ap, AreSeated, arith, cases_eq, cases_lt, false, get_or-set_other, get_or-set_same, HasPlace, HasSeat, inl, inr, LeavesSeat, length, Line, List, no_seat, refl, Seat, seat_at, set, subst, suc, sym, true}
+use Rattle.core_queues.proofs.Names.{Vacates, zero, ℕ, ⊎_elim, ◌+◌, ◌<◌, ◌∙◌, ◌≡◌, ◌≤◌, ◌⊎◌}
+use Rattle.std.proofs.lemmas.List.{length-set}
 
 false_true : false ≡ true → ⊥
 false_true is = cc

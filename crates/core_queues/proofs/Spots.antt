@@ -1,11 +1,8 @@
 -- The lines of all queues by their spots, as one of them is written.
-use Rattle.std.proofs.Common.{◌≡◌, ◌⊎◌, ℕ, ◌+◌, ◌<◌, ◌≤◌, Bool, true, false, List, length, set, slice_index_or, inl, inr, refl, sym, ap, ◌∙◌, ⊎_elim, arith}
-use Rattle.std.proofs.lemmas.Bool.{cases_eq}
-use Rattle.std.proofs.lemmas.List.{get_or_read, get_or-set_same, get_or-set_other, length-set, set-set}
-use Rattle.std.proofs.lemmas.List.Sums.{sum_by-set, get_or-le-sum_by}
-use Rattle.core_queues.specs.declared.line.Line.{Line}
-use Rattle.core_queues.specs.declared.line.Queue.{Queue}
-use Rattle.core_queues.specs.Linked.{Spot, no_queue, side, line_at, queue_at, job_count}
+use Rattle.core_queues.proofs.Names.{ap, arith, Bool, cases_eq, false, get_or-le-sum_by, get_or-set_other, get_or-set_same, get_or_read, inl, inr, job_count, length, Line, line_at, List, no_queue, Queue, queue_at, refl, set, set-set, side}
+use Rattle.core_queues.proofs.Names.{Spot, sum_by-set, sym, true, ℕ, ⊎_elim, ◌+◌, ◌<◌, ◌∙◌, ◌≡◌, ◌≤◌, ◌⊎◌}
+use Rattle.std.proofs.Common.{slice_index_or}
+use Rattle.std.proofs.lemmas.List.{length-set}
 
 -- the spot of the jobs of a queue that wait, and that of its parked ones
 abbrev pub waits : ℕ → Spot

@@ -1,16 +1,7 @@
 -- A job at a known place leaves its line and the slab.
-use Rattle.std.proofs.Common.{◌≡◌, ◌⊎◌, ℕ, suc, ◌+◌, ◌-◌, ◌<◌, ◌≤◌, List, [], ◌++◌, length, inl, inr, Some, None, sym, ap, ◌∙◌, subst, ⊎_elim, arith}
-use Rattle.std.proofs.lemmas.Bool.{cases_lt}
-use Rattle.std.proofs.lemmas.List.{length-append}
-use Rattle.slab.specs.Slab.{Slab, get, slab_len, ContainsKey, Updates}
-use Rattle.core_queues.specs.declared.waiting.Waiting.{Waiting}
-use Rattle.base_words.specs.declared.names.JobId.{JobId}
-use Rattle.core_queues.specs.declared.line.Line.{Line}
-use Rattle.core_queues.specs.declared.line.Queue.{Queue}
+use Rattle.core_queues.proofs.Names.{ap, arith, cases_lt, ContainsKey, get, inl, inr, IsKept, IsLastOr, JobId, key_at, length, length-append, Line, line_at, List, None, Queue, Relinks, shown, Skips, Slab, slab_len, Some, Spot, subst, suc}
+use Rattle.core_queues.proofs.Names.{sym, Updates, Waiting, ℕ, [], ⊎_elim, ◌++◌, ◌+◌, ◌-◌, ◌<◌, ◌∙◌, ◌≡◌, ◌≤◌, ◌⊎◌}
 use Rattle.core_queues.specs.View.{Line as Says}
-use Rattle.core_queues.specs.Linked.{Spot, line_at, key_at, shown, IsKept}
-use Rattle.core_queues.specs.Entries.{Relinks}
-use Rattle.core_queues.specs.Lines.{Skips, IsLastOr}
 use Rattle.core_queues.proofs.Spots.{placed, ChangesOne-placed, job_count-placed, length-placed}
 use Rattle.core_queues.proofs.Changes.{Writes, Writes-placed}
 use Rattle.core_queues.proofs.Leaves.{Leaves, shrinks, keeps, IsKept-left, says-left, Writes-left}

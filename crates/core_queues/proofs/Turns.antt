@@ -1,19 +1,10 @@
 -- The head of a line leaves it, and joins it again at the tail, or is parked.
-use Rattle.std.proofs.Common.{◌≡◌, ℕ, ◌<◌, Bool, true, false, List, [], ◌∷◌, ◌++◌, length, set, Some, refl, sym, subst, arith}
-use Rattle.slab.specs.Slab.{Slab, get, slab_len}
-use Rattle.core_queues.specs.declared.waiting.Waiting.{Waiting}
-use Rattle.core_queues.specs.declared.line.Line.{Line}
-use Rattle.core_queues.specs.declared.line.Queue.{Queue}
-use Rattle.core_queues.specs.View.{QueuesView, waiting_of, parked_of, awake, IsWithinLimits}
-use Rattle.core_queues.specs.Queues.{ChangesLine, ChangesParks}
-use Rattle.core_queues.specs.Linked.{queue_at, line_at, shown, IsKept}
-use Rattle.core_queues.specs.Entries.{Appends, Requeues, MovesHead}
-use Rattle.core_queues.specs.Fronts.{TurnsLine, RestsFront, ParksOrStays}
+use Rattle.core_queues.proofs.Names.{Appends, AreAtRest, arith, awake, Bool, ChangesLine, ChangesParks, false, get, IsKept, IsWithinLimits, length, Line, line_at, List, MovesHead, parked_of, ParksOrStays, Queue, queue_at, QueuesView, refl}
+use Rattle.core_queues.proofs.Names.{Requeues, RestsFront, set, shown, Slab, slab_len, Some, subst, sym, true, TurnsLine, Waiting, waiting_of, ℕ, [], ◌++◌, ◌<◌, ◌∷◌, ◌≡◌}
 use Rattle.core_queues.proofs.Spots.{waits, parks, other_side, placed, ChangesOne-placed, length-placed, placed-set}
 use Rattle.core_queues.proofs.Leaves.{IsKept-left, Writes-left, waiting_of-left, ChangesLine-left}
 use Rattle.core_queues.proofs.Joins.{IsKept-joined, Writes-joined, ChangesLine-joined, ChangesParks-joined}
 use Rattle.core_queues.proofs.Fronts.{removed, rest_of, marked, removed-len, Leaves-removed, Appends-requeued, Appends-moved}
-use Rattle.core_queues.specs.Rests.{AreAtRest}
 use Rattle.core_queues.proofs.Rests.{false_true, IsAtRest-append, AreAtRest-writes}
 use Rattle.core_queues.proofs.Views.{line_says, alone, IsWithinLimits-view}
 

@@ -1,19 +1,8 @@
 -- Parked jobs come to the line of their queue: all at once, by one key, or one that was found.
-use Rattle.std.proofs.Common.{◌≡◌, ◌⊎◌, ℕ, true, suc, ◌+◌, ◌<◌, ◌≤◌, List, [], ◌++◌, length, map, set, inl, inr, refl, sym, ap, ◌∙◌, subst, arith}
-use Rattle.std.proofs.lemmas.Bool.{cases_eq}
-use Rattle.std.proofs.lemmas.List.Sums.{get_or-le-sum_by}
-use Rattle.slab.specs.Slab.{Slab, get, slab_len}
-use Rattle.core_queues.specs.declared.waiting.Waiting.{Waiting}
-use Rattle.core_queues.specs.declared.line.Line.{Line}
-use Rattle.core_queues.specs.declared.line.Queue.{Queue}
-use Rattle.core_queues.specs.View.{QueuesView, waiting_of, parked_of, held_count, awake}
+use Rattle.core_queues.proofs.Names.{ap, AreAtRest, arith, awake, cases_eq, chain, ChangesLine, get, get_or-le-sum_by, held_count, inl, inr, IsAtRest, IsKept, IsLinked, JoinsLines, key_at, length, Line, line_at, List, map, Moves, next_of}
+use Rattle.core_queues.proofs.Names.{no_line, no_queue, parked_of, Queue, queue_at, QueuesView, refl, Relinks, set, shown_parked, Slab, slab_len, Spot, subst, suc, sym, true, Waiting, waiting_of, ℕ, [], ◌++◌, ◌+◌, ◌<◌, ◌∙◌, ◌≡◌, ◌≤◌, ◌⊎◌}
 use Rattle.core_queues.specs.View.{Line as Says, Parks as Parked}
-use Rattle.core_queues.specs.Queues.{ChangesLine}
-use Rattle.core_queues.specs.Parks.{ChangesParks, Moves}
-use Rattle.core_queues.specs.Linked.{Spot, next_of, no_line, no_queue, queue_at, line_at, key_at, chain, shown_parked, IsLinked, IsKept}
-use Rattle.core_queues.specs.Rests.{IsAtRest, AreAtRest}
-use Rattle.core_queues.specs.Lines.{JoinsLines}
-use Rattle.core_queues.specs.Entries.{Relinks}
+use Rattle.core_queues.specs.Parks.{ChangesParks}
 use Rattle.core_queues.proofs.Chains.{key_at-add}
 use Rattle.core_queues.proofs.Spots.{waits, parks, other_side, placed, ChangesOne-placed, job_count-placed, shares-placed, mode-placed, length-placed, placed-set}
 use Rattle.core_queues.proofs.Links.{KeepsLines, KeepsLines-entries, KeepsLines-relink, IsLinked-kept, chain-kept}

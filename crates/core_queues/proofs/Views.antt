@@ -1,14 +1,7 @@
 -- What the slab and the lines show: shares, lines, parked jobs and how many jobs there are.
-use Rattle.std.proofs.Common.{◌≡◌, ℕ, zero, suc, ◌+◌, ◌<◌, ◌≤◌, List, [], ◌∷◌, length, map, sum_by, get_or, refl, sym, ap, ◌∙◌, subst, arith}
-use Rattle.std.proofs.lemmas.List.{length-map}
-use Rattle.std.proofs.lemmas.List.Sums.{sum_by-cons}
-use Rattle.slab.specs.Slab.{Slab, get, slab_len, ContainsKey}
-use Rattle.core_queues.specs.declared.waiting.Waiting.{Waiting}
-use Rattle.core_queues.specs.declared.line.Line.{Line}
-use Rattle.core_queues.specs.declared.line.Queue.{Queue}
-use Rattle.core_queues.specs.View.{QueueView, QueuesView, queue_count, shares_of, mode_of, waiting_of, parked_of, held_in, held_count, IsWithinLimits}
+use Rattle.core_queues.proofs.Names.{ap, arith, chain, ContainsKey, get, get_or, held_count, held_in, IsKept, IsWithinLimits, job_count, length, length-map, Line, line_at, List, map, mode_of, no_queue, parked_of, Queue, queue_at}
+use Rattle.core_queues.proofs.Names.{queue_count, queue_of, QueuesView, QueueView, refl, shares_of, shown_parked, Slab, slab_len, Spot, subst, suc, sum_by, sum_by-cons, sym, Waiting, waiting_of, zero, ℕ, [], ◌+◌, ◌<◌, ◌∙◌, ◌∷◌, ◌≡◌, ◌≤◌}
 use Rattle.core_queues.specs.View.{Line as Says}
-use Rattle.core_queues.specs.Linked.{Spot, no_queue, queue_at, line_at, job_count, chain, shown_parked, queue_of, IsKept}
 use Rattle.core_queues.proofs.Chains.{length-chain}
 use Rattle.core_queues.proofs.Spots.{waits, parks, count-le-job_count}
 

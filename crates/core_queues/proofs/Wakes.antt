@@ -1,25 +1,9 @@
 -- What a wake does: a parked job that was found comes to the line of its queue, and of one that waits the wake is kept.
-use Rattle.std.proofs.Common.{◌≡◌, ◌⊎◌, ℕ, suc, ◌+◌, ◌-◌, ◌<◌, ◌≤◌, Bool, true, false, List, [], ◌∷◌, ◌++◌, length, map, set, inl, inr, Some, refl, sym, ap, ◌∙◌, subst, arith}
-use Rattle.std.specs.Prelude.{is_some}
-use Rattle.std.proofs.lemmas.Bool.{cases_lt}
-use Rattle.std.proofs.lemmas.List.{map-append, get_or_past}
-use Rattle.slab.specs.Slab.{Slab, get, slab_len}
-use Rattle.base_words.specs.declared.names.JobId.{JobId}
-use Rattle.core_index.specs.Buckets.{Names, name_at}
-use Rattle.core_queues.specs.declared.waiting.Waiting.{Waiting}
-use Rattle.core_queues.specs.declared.seats.Seat.{Seat}
-use Rattle.core_queues.specs.declared.line.Line.{Line}
-use Rattle.core_queues.specs.declared.line.Queue.{Queue}
-use Rattle.core_queues.specs.View.{QueuesView, waiting_of, held_count, awake}
+use Rattle.core_queues.proofs.Names.{ap, Appends, AreAtRest, AreFound, arith, awake, Bool, cases_lt, ChangesLine, false, get, get_or_past, held_count, inl, inr, is_some, IsAtRest, IsKept, JobId, KeepsWake, KeepsWakeOf, key_at, LeavesSeat}
+use Rattle.core_queues.proofs.Names.{length, Line, line_at, List, map, map-append, MovesOut, name_at, Names, no_queue, parked_counts, parked_keys, Queue, queue_at, QueuesView, refl, Seat, seat_at, set, shown, shown_parked, Slab, slab_len}
+use Rattle.core_queues.proofs.Names.{Some, subst, suc, sym, true, Waiting, waiting_of, WakesParked, ℕ, [], ◌++◌, ◌+◌, ◌-◌, ◌<◌, ◌∙◌, ◌∷◌, ◌≡◌, ◌≤◌, ◌⊎◌}
 use Rattle.core_queues.specs.View.{Line as Says, Parks as Parked}
-use Rattle.core_queues.specs.Queues.{ChangesLine}
 use Rattle.core_queues.specs.Parks.{ChangesParks}
-use Rattle.core_queues.specs.Waking.{WakesParked, KeepsWake}
-use Rattle.core_queues.specs.Linked.{no_queue, queue_at, line_at, key_at, shown, shown_parked, IsKept}
-use Rattle.core_queues.specs.Entries.{Appends}
-use Rattle.core_queues.specs.Rests.{IsAtRest, AreAtRest}
-use Rattle.core_queues.specs.Lines.{MovesOut, KeepsWakeOf}
-use Rattle.core_queues.specs.Seats.{seat_at, parked_counts, parked_keys, AreFound, LeavesSeat}
 use Rattle.core_queues.proofs.Marked.{one_entry}
 use Rattle.core_queues.proofs.Spots.{waits, parks, other_side, placed, ChangesOne-placed, length-placed, placed-set}
 use Rattle.core_queues.proofs.Changes.{ChangesLine-of, ChangesParks-of}

@@ -1,24 +1,9 @@
 -- When all that was accepted for a core has ended.
-use Rattle.std.proofs.Common.{◌≡◌, ℕ, ◌+◌, ◌<◌, ◌≤◌, ◌⊎◌, inl, inr, Bool, true, false, [], ◌∷◌, length, refl, sym, ◌∙◌, ap, subst, cond, arith}
-use Rattle.std.specs.Prelude.{Option, Some, None, IsTrue, not}
-use Rattle.std.proofs.lemmas.Bool.{cases_lt, true≢false}
-use Rattle.base_words.specs.declared.names.JobId.{JobId}
-use Rattle.base_words.specs.declared.note.Note.{Note}
+use Rattle.judge_audit.proofs.Names.{accepted_orders, AllEnded, ap, arith, Assembly, Bool, cases_lt, cond, EachNote, EndedIfSent, EndedUnder, false, first_under, first_under-with_last, HasEnded, inl, inr, is_command, is_told, IsTrue, JobId}
+use Rattle.judge_audit.proofs.Names.{Journal, journal_of, length, name_answered, no_journal, None, not, Note, one_name, Option, or_else, Order, order_of, order_sent, order_told, refl, same_name, Some, subst, sym, true, true≢false}
+use Rattle.judge_audit.proofs.Names.{under-order, value_under, ℕ, [], ◌+◌, ◌<◌, ◌∙◌, ◌∷◌, ◌≡◌, ◌≤◌, ◌⊎◌}
 use Rattle.base_words.specs.declared.note.Note.TheVariants.{Sent}
-use Rattle.base_words.specs.declared.order.Order.{Order}
 use Rattle.base_words.specs.declared.order.Order.TheVariants.{Job}
-use Rattle.base_words.specs.Assembly.{Assembly, journal_of, first_under, order_of, is_command}
-use Rattle.base_words.specs.Clauses.{name_answered}
-use Rattle.base_words.specs.Filters.{accepted_orders, order_sent}
-use Rattle.base_words.specs.Journal.{Journal, EachNote, is_told, or_else}
-use Rattle.base_words.specs.Names.{same_name}
-use Rattle.base_words.specs.Sound.{AllEnded}
-use Rattle.base_words.proofs.NameLemmas.{one_name}
-use Rattle.note_facts.specs.Names.{value_under}
-use Rattle.note_facts.specs.Told.{order_told}
-use Rattle.note_facts.proofs.FirstUnder.{first_under-with_last, under-order}
-use Rattle.note_journal.proofs.Given.{no_journal}
-use Rattle.judge_audit.specs.Ends.{HasEnded, EndedUnder, EndedIfSent}
 
 -- what is not missing is there
 pub is_kept : (there : Bool) → not there ≡ false → there ≡ true

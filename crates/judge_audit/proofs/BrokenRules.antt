@@ -1,14 +1,7 @@
 -- A rule whose first fault has a place is broken.
-use Rattle.std.proofs.Common.{◌≡◌, ℕ, ◌+◌, ◌≤◌, inl, inr, zero, suc, refl, arith}
-use Rattle.base_words.specs.Assembly.{Assembly, journal_of}
-use Rattle.base_words.specs.Clauses.{StartsRight, RespectsCloses, OutcomesRight}
-use Rattle.base_words.specs.Sound.{IsSound, OrderIsSound, OutcomesAreSound}
-use Rattle.note_facts.proofs.FirstFaults.{fault_breaks}
-use Rattle.judge_picks.proofs.PickLines.{pick_breaks}
+use Rattle.judge_audit.proofs.Names.{arith, Assembly, BreaksRule, ClosesFault, ClosesOf, fault_breaks, inl, inr, IsFirstPlace, IsInOrder, IsPlaceOf, IsSound, journal_of, OrderFault, OrderIsSound, OutcomesAreSound, OutcomesFault, OutcomesOf}
+use Rattle.judge_audit.proofs.Names.{OutcomesRight, pick_breaks, PicksFault, PicksOf, refl, RespectsCloses, StartsFault, StartsOf, StartsRight, suc, zero, ℕ, ◌+◌, ◌≡◌, ◌≤◌}
 use Rattle.judge_audit.proofs.LinksOff.{order_broken}
-use Rattle.judge_audit.specs.Faults.{IsFirstPlace, IsPlaceOf, StartsFault, OrderFault, ClosesFault, OutcomesFault, PicksFault}
-use Rattle.judge_audit.specs.Places.{StartsOf, IsInOrder, ClosesOf, OutcomesOf, PicksOf}
-use Rattle.judge_audit.specs.Verdicts.{BreaksRule}
 
 module _ (assembly : Assembly ℕ) where
   -- the second rule, of one actor, if it is kept

@@ -1,5 +1,5 @@
 -- Nothing is closed at first.
-use Rattle.std.proofs.Common.{◌≡◌, ℕ, zero, suc, Bool, false, refl, get_or, replicate}
+use Rattle.judge_audit.proofs.Names.{Bool, false, get_or, refl, replicate, suc, zero, ℕ, ◌≡◌}
 
 pub none_there : (count place : ℕ) → ◌≡◌ {A = Bool} (get_or (replicate count false) place false) false
 none_there zero place = refl

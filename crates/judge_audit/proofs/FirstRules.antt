@@ -1,8 +1,5 @@
 -- No two rules are the first that is broken.
-use Rattle.std.proofs.Common.{◌≡◌, ℕ, ◌<◌, ◌≤◌, ◌⊎◌, inl, inr, arith}
-use Rattle.std.proofs.lemmas.Bool.{cases_eq, cases_lt}
-use Rattle.base_words.specs.Assembly.{Assembly}
-use Rattle.judge_audit.specs.Verdicts.{KeepsRulesBefore, BreaksRule, IsFirstBroken}
+use Rattle.judge_audit.proofs.Names.{arith, Assembly, BreaksRule, cases_eq, cases_lt, inl, inr, IsFirstBroken, KeepsRulesBefore, ℕ, ◌<◌, ◌≡◌, ◌≤◌, ◌⊎◌}
 
 module _ (assembly : Assembly ℕ) where
   -- a rule that is broken isn't kept

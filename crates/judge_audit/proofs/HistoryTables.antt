@@ -1,12 +1,5 @@
 -- The histories of all journals, one behind the other.
-use Rattle.std.proofs.Common.{◌≡◌, ℕ, ◌+◌, ◌<◌, ◌⊎◌, inl, inr, List, [], ◌∷◌, ◌++◌, length, sym, ◌∙◌, subst, arith}
-use Rattle.std.specs.Prelude.{Some, slice_get}
-use Rattle.std.proofs.lemmas.List.{length-append}
-use Rattle.base_words.specs.Assembly.{Assembly, journal_of}
-use Rattle.note_facts.specs.declared.histories.History.{History}
-use Rattle.note_facts.specs.Histories.{IsHistory}
-use Rattle.note_facts.proofs.Walks.{slice_get-seam}
-use Rattle.judge_audit.specs.Histories.{AreHistories}
+use Rattle.judge_audit.proofs.Names.{AreHistories, arith, Assembly, History, inl, inr, IsHistory, journal_of, length, length-append, List, slice_get, slice_get-seam, Some, subst, sym, ℕ, [], ◌++◌, ◌+◌, ◌<◌, ◌∙◌, ◌∷◌, ◌≡◌, ◌⊎◌}
 
 -- one more history is that of the next actor
 pub next_histories : (assembly : Assembly ℕ) (histories : List History) (last : History) (count : ℕ) → AreHistories histories assembly count →

@@ -1,8 +1,5 @@
 -- Which rules are kept before the one that is named.
-use Rattle.std.proofs.Common.{◌≡◌, ℕ, arith}
-use Rattle.base_words.specs.Assembly.{Assembly}
-use Rattle.base_words.specs.Sound.{IsSound, StartsAreSound, OrderIsSound, ClosesAreSound, OutcomesAreSound}
-use Rattle.judge_audit.specs.Verdicts.{KeepsRulesBefore}
+use Rattle.judge_audit.proofs.Names.{arith, Assembly, ClosesAreSound, IsSound, KeepsRulesBefore, OrderIsSound, OutcomesAreSound, StartsAreSound, ℕ, ◌≡◌}
 
 module _ (assembly : Assembly ℕ) (rule : ℕ) where
   -- no rule stands before the first

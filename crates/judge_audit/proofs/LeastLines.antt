@@ -1,17 +1,6 @@
 -- The least line of a fault.
-use Rattle.std.proofs.Common.{◌≡◌, ℕ, ◌-◌, ◌<◌, ◌≤◌, ◌⊎◌, inl, inr, List, length, drop, min, refl, sym, ◌∙◌, ap, subst, arith, length-drop}
-use Rattle.std.specs.Prelude.{Option, Some, None, IfSome}
-use Rattle.std.proofs.lemmas.Bool.{cases_lt}
-use Rattle.std.proofs.lemmas.List.{drop-drop}
-use Rattle.base_words.specs.declared.names.JobId.{JobId}
-use Rattle.base_words.specs.declared.note.Note.{Note}
-use Rattle.base_words.specs.Assembly.{IsPrefix}
-use Rattle.base_words.proofs.Prefixes.{IsPrefix-along}
-use Rattle.base_words.specs.Journal.{Journal, EachNote, at_place}
-use Rattle.judge_audit.specs.Sides.{TurnsOff}
-use Rattle.note_facts.specs.Faults.{IsFirstFault}
-use Rattle.note_facts.proofs.FirstFaults.{each_before, fault_breaks}
-use Rattle.judge_audit.specs.OrderFaults.{lesser, IsLeast}
+use Rattle.judge_audit.proofs.Names.{ap, arith, at_place, cases_lt, drop, drop-drop, each_before, EachNote, fault_breaks, IfSome, inl, inr, IsFirstFault, IsLeast, IsPrefix, IsPrefix-along, JobId, Journal, length, length-drop, lesser, List}
+use Rattle.judge_audit.proofs.Names.{min, None, Note, Option, refl, Some, subst, sym, TurnsOff, ℕ, ◌-◌, ◌<◌, ◌∙◌, ◌≡◌, ◌≤◌, ◌⊎◌}
 
 module _ (F G : ℕ → Type 0) where
   -- the lesser of two least lines is the least of both kinds

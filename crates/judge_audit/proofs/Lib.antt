@@ -1,3 +1,4 @@
+mod Names
 pub mod AllEnded
 pub mod BrokenRules
 pub mod FirstRules

@@ -1,15 +1,6 @@
 -- Tables of all journals, one behind the other.
-use Rattle.std.proofs.Common.{◌≡◌, ℕ, ◌+◌, ◌<◌, ◌≤◌, ◌⊎◌, inl, inr, List, [], ◌∷◌, ◌++◌, length, sym, ap, ◌∙◌, subst, arith, get_or}
-use Rattle.std.specs.Prelude.{Option, Some, None, slice_get}
-use Rattle.std.proofs.lemmas.List.{length-append}
-use Rattle.std.proofs.lemmas.Option.{slice_get_cases}
-use Rattle.base_words.specs.declared.names.JobId.{JobId}
-use Rattle.base_words.specs.Assembly.{Assembly, journal_of}
-use Rattle.base_words.specs.Journal.{Journal}
-use Rattle.note_journal.proofs.Given.{no_journal}
-use Rattle.note_facts.specs.Names.{Entries}
-use Rattle.note_facts.proofs.Walks.{slice_get-seam}
-use Rattle.judge_audit.specs.Links.{known_in, under, HasSaid, AreTablesOf}
+use Rattle.judge_audit.proofs.Names.{ap, AreTablesOf, arith, Assembly, Entries, get_or, HasSaid, inl, inr, JobId, Journal, journal_of, known_in, length, length-append, List, no_journal, None, Option, slice_get, slice_get-seam}
+use Rattle.judge_audit.proofs.Names.{slice_get_cases, Some, subst, sym, under, ℕ, [], ◌++◌, ◌+◌, ◌<◌, ◌∙◌, ◌∷◌, ◌≡◌, ◌≤◌, ◌⊎◌}
 
 module _ {T V : Type 0} (says : JobId → Journal T → Option V) (assembly : Assembly T) where
   -- the table of one actor more

@@ -1,16 +1,7 @@
 -- One more link of an actor is looked at.
-use Rattle.std.proofs.Common.{◌≡◌, ℕ, ◌+◌, ◌<◌, ◌≤◌, ◌⊎◌, inl, inr, subst, arith}
-use Rattle.std.specs.Prelude.{Option}
-use Rattle.std.proofs.lemmas.Bool.{cases_lt}
-use Rattle.base_words.specs.Assembly.{Assembly, journal_of, names_of}
-use Rattle.base_words.specs.Clauses.{StandsInOrder}
-use Rattle.base_words.specs.Filters.{accepted_orders, delivered_names, name_delivered, given_outcomes, collected_outcomes}
-use Rattle.base_words.specs.Journal.{Journal}
-use Rattle.judge_audit.specs.Sides.{TurnsOff}
+use Rattle.judge_audit.proofs.Names.{accepted_orders, arith, Assembly, cases_lt, collected_outcomes, CollectionsOff, delivered_names, DeliveriesOff, fault_breaks, given_outcomes, inl, inr, IsInOrder, IsLeast, Journal, journal_of, lesser}
+use Rattle.judge_audit.proofs.Names.{LinksOff, name_delivered, names_of, Option, OrderOff, StandsInOrder, subst, TurnsOff, ℕ, ◌+◌, ◌<◌, ◌≡◌, ◌≤◌, ◌⊎◌}
 use Rattle.judge_audit.proofs.ToldNames.{told_at_place, collected_at_place}
-use Rattle.note_facts.proofs.FirstFaults.{fault_breaks}
-use Rattle.judge_audit.specs.OrderFaults.{lesser, IsLeast, DeliveriesOff, CollectionsOff, LinksOff, OrderOff}
-use Rattle.judge_audit.specs.Places.{IsInOrder}
 use Rattle.judge_audit.proofs.LeastLines.{both_least, same_least, prefix_breaks}
 
 module _ (assembly : Assembly ℕ) (actor count : ℕ) where

@@ -1,11 +1,5 @@
 -- No fault of a rule is named, if the rule is kept.
-use Rattle.std.proofs.Common.{◌≡◌, ℕ, true, refl, sym, ◌∙◌, ap}
-use Rattle.std.specs.Prelude.{Option, Some, None, IfSome, is_some}
-use Rattle.std.proofs.lemmas.Bool.{true≢false}
-use Rattle.base_words.specs.declared.note.Note.{Note}
-use Rattle.base_words.specs.Journal.{Journal, EachNote}
-use Rattle.note_facts.specs.Faults.{IsFirstFault}
-use Rattle.note_facts.proofs.FirstFaults.{fault_breaks}
+use Rattle.judge_audit.proofs.Names.{ap, EachNote, fault_breaks, IfSome, is_some, IsFirstFault, Journal, None, Note, Option, refl, Some, sym, true, true≢false, ℕ, ◌∙◌, ◌≡◌}
 
 -- what is there isn't `None`
 pub some_none : {A : Type 0} (there : Option A) → is_some there ≡ true → there ≡ None → ⊥

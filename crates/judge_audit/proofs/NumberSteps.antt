@@ -1,21 +1,8 @@
 -- What the walk of the second rule knows after one more note, and when a start stands in order.
-use Rattle.std.proofs.Common.{◌≡◌, ℕ, zero, suc, ◌<◌, ◌≤◌, ◌⊎◌, inl, inr, Bool, true, false, [], ◌∷◌, refl, sym, ◌∙◌, ap, subst, cond, arith, get_or, replicate}
-use Rattle.std.specs.Prelude.{Option, Some, None}
-use Rattle.std.proofs.lemmas.Bool.{or_cases, true≢false}
-use Rattle.base_words.specs.declared.names.JobId.{JobId}
+use Rattle.judge_audit.proofs.Names.{ap, arith, Assembly, Bool, cond, EachNote, EnteredAsSent, false, get_or, inl, inr, is_told, IsAbove, IsAcceptedInside, IsSome, JobId, Journal, KnowsNumbers, last_started, name_started, None, Numbers}
+use Rattle.judge_audit.proofs.Names.{one_name, Option, or_cases, or_else, Order, order_of, queue_asked, queue_of, refl, replicate, same_name, Some, StandsInOrder, subst, suc, sym, true, true≢false, zero, ℕ, [], ◌<◌, ◌∙◌, ◌∷◌, ◌≡◌, ◌≤◌, ◌⊎◌}
 use Rattle.base_words.specs.declared.note.Note.TheVariants.{Took, Start}
-use Rattle.base_words.specs.declared.order.Order.{Order}
 use Rattle.base_words.specs.declared.order.Order.TheVariants.{Job}
-use Rattle.base_words.specs.Assembly.{Assembly, order_of}
-use Rattle.base_words.specs.Clauses.{StandsInOrder, IsAcceptedInside}
-use Rattle.base_words.specs.Filters.{name_started}
-use Rattle.base_words.specs.Journal.{Journal, EachNote, is_told, or_else}
-use Rattle.base_words.specs.Names.{same_name}
-use Rattle.base_words.specs.Work.{queue_of}
-use Rattle.base_words.proofs.NameLemmas.{one_name}
-use Rattle.judge_audit.specs.declared.order.Numbers.{Numbers}
-use Rattle.std.specs.Option.{IsSome}
-use Rattle.judge_audit.specs.Numbers.{queue_asked, last_started, IsAbove, KnowsNumbers, EnteredAsSent}
 
 -- the order of a job
 pub asked_job : (order : Option (Order (Unit {0}))) (queue : ℕ) → queue_asked order ≡ Some queue → order ≡ Some (Job queue tt)

@@ -1,16 +1,6 @@
 -- A rule is first broken at one place alone.
-use Rattle.std.proofs.Common.{◌≡◌, ℕ, ◌+◌, ◌-◌, ◌<◌, ◌≤◌, ◌⊎◌, inl, inr, [], ◌∷◌, length, sym, ◌∙◌, ap, subst, arith}
-use Rattle.std.specs.Prelude.{None, is_some}
-use Rattle.std.proofs.lemmas.Bool.{cases_lt, true≢false}
-use Rattle.base_words.specs.declared.note.Note.{Note}
-use Rattle.base_words.specs.Clauses.{PicksRight}
-use Rattle.base_words.specs.Journal.{Journal, EachNote, at_place}
-use Rattle.base_words.specs.Picks.{queue_just_picked}
-use Rattle.note_facts.specs.Faults.{IsFirstFault}
-use Rattle.note_facts.proofs.FirstFaults.{each_before}
-use Rattle.judge_picks.specs.PickFaults.{IsCutOff, IsUnfollowed, IsWrongNote, IsPickFault}
-use Rattle.judge_picks.specs.Picks.{Follows}
-use Rattle.judge_audit.specs.Faults.{IsFirstPlace}
+use Rattle.judge_audit.proofs.Names.{ap, arith, at_place, cases_lt, each_before, EachNote, Follows, inl, inr, is_some, IsCutOff, IsFirstFault, IsFirstPlace, IsPickFault, IsUnfollowed, IsWrongNote, Journal, length, None, Note, PicksRight}
+use Rattle.judge_audit.proofs.Names.{queue_just_picked, subst, sym, true≢false, ℕ, [], ◌+◌, ◌-◌, ◌<◌, ◌∙◌, ◌∷◌, ◌≡◌, ◌≤◌, ◌⊎◌}
 use Rattle.judge_audit.proofs.LeastLines.{at_within, fault_behind, no_earlier}
 
 -- the newest note of a journal follows as it should

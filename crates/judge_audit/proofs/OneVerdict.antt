@@ -1,14 +1,7 @@
 -- The journals determine the verdict.
-use Rattle.std.proofs.Common.{◌≡◌, ℕ, ◌+◌, ◌≤◌, inl, inr, zero, suc, refl, sym, ◌∙◌, subst, arith}
-use Rattle.base_words.specs.Assembly.{Assembly, journal_of}
-use Rattle.base_words.specs.Clauses.{StartsRight, RespectsCloses, OutcomesRight}
-use Rattle.note_facts.proofs.FirstFaults.{fault_breaks}
-use Rattle.judge_picks.proofs.PickLines.{pick_breaks}
-use Rattle.judge_audit.specs.declared.judge.Verdict.{Verdict}
+use Rattle.judge_audit.proofs.Names.{arith, Assembly, ClosesFault, ClosesOf, fault_breaks, inl, inr, IsInOrder, IsPlaceOf, IsVerdict, journal_of, OrderFault, OutcomesFault, OutcomesOf, OutcomesRight, pick_breaks, PicksFault, PicksOf, refl}
+use Rattle.judge_audit.proofs.Names.{RespectsCloses, StartsFault, StartsOf, StartsRight, subst, suc, sym, Verdict, zero, ℕ, ◌+◌, ◌∙◌, ◌≡◌, ◌≤◌}
 use Rattle.judge_audit.specs.declared.judge.Verdict.TheVariants.{Sound, Fault}
-use Rattle.judge_audit.specs.Faults.{IsPlaceOf, StartsFault, OrderFault, ClosesFault, OutcomesFault, PicksFault}
-use Rattle.judge_audit.specs.Places.{StartsOf, IsInOrder, ClosesOf, OutcomesOf, PicksOf}
-use Rattle.judge_audit.specs.Verdicts.{IsVerdict}
 use Rattle.judge_audit.proofs.FirstRules.{one_first}
 use Rattle.judge_audit.proofs.LinksOff.{order_broken}
 use Rattle.judge_audit.proofs.OneLine.{one_first_fault, one_pick_fault, one_place}

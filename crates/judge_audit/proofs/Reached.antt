@@ -1,20 +1,8 @@
 -- Each number that is kept is that of a start, and where a start stands in order its number is above what is kept.
-use Rattle.std.proofs.Common.{◌≡◌, ℕ, ◌+◌, ◌*◌, ◌<◌, ◌≤◌, ◌⊎◌, inl, inr, Bool, true, false, List, [], ◌∷◌, length, refl, sym, ◌∙◌, ap, subst, cond, arith, get_or, replicate, zero, suc}
-use Rattle.std.specs.Prelude.{Option, Some, None, ◌||◌}
-use Rattle.std.specs.Option.{IsSome}
-use Rattle.std.proofs.lemmas.Bool.{cases_lt, or_cases, true≢false}
-use Rattle.base_words.specs.declared.names.JobId.{JobId}
-use Rattle.base_words.specs.declared.note.Note.{Note}
+use Rattle.judge_audit.proofs.Names.{ap, AreReached, arith, Assembly, Bool, cases_lt, cond, EachNote, EnteredAsSent, false, get_or, HasReached, inl, inr, is_name, is_told, IsAcceptedInside, IsSome, JobId, Journal, KnowsOrder, last_started}
+use Rattle.judge_audit.proofs.Names.{length, List, name_started, None, Note, Numbers, one_name, Option, or_cases, or_else, order_of, queue_asked, queue_of, Raises, refl, replicate, same_as_itself, same_name, Some, StandsInOrder}
+use Rattle.judge_audit.proofs.Names.{StartsRight, subst, suc, sym, true, true≢false, zero, ℕ, [], ◌*◌, ◌+◌, ◌<◌, ◌||◌, ◌∙◌, ◌∷◌, ◌≡◌, ◌≤◌, ◌⊎◌}
 use Rattle.base_words.specs.declared.note.Note.TheVariants.{Start, Took}
-use Rattle.base_words.specs.Assembly.{Assembly, order_of}
-use Rattle.base_words.specs.Clauses.{StartsRight, StandsInOrder, IsAcceptedInside}
-use Rattle.base_words.specs.Filters.{name_started}
-use Rattle.base_words.specs.Journal.{Journal, EachNote, is_told, or_else}
-use Rattle.base_words.specs.Names.{is_name, same_name}
-use Rattle.base_words.specs.Work.{queue_of}
-use Rattle.base_words.proofs.NameLemmas.{one_name, same_as_itself}
-use Rattle.judge_audit.specs.declared.order.Numbers.{Numbers}
-use Rattle.judge_audit.specs.Numbers.{queue_asked, last_started, HasReached, AreReached, Raises, EnteredAsSent, KnowsOrder}
 
 zeros : (count place default : ℕ) → place < length (replicate {A = ℕ} count 0) → ◌≡◌ {A = ℕ} (get_or (replicate count 0) place default) 0
 zeros zero place default within = absurd (omega arith)

@@ -1,15 +1,8 @@
 -- The lists of a link as names, and the beginnings of lists that are told.
-use Rattle.std.proofs.Common.{◌≡◌, ℕ, zero, suc, ◌-◌, Bool, true, false, List, [], ◌∷◌, ◌++◌, length, drop, refl, sym, ◌∙◌, ap, subst, cond}
-use Rattle.std.specs.Prelude.{Option, Some, None, IfSome, ◌==◌}
-use Rattle.std.proofs.lemmas.List.{map-append}
-use Rattle.base_words.specs.declared.names.JobId.{JobId}
-use Rattle.base_words.specs.declared.note.Note.{Note}
+use Rattle.judge_audit.proofs.Names.{accepted_orders, ap, at_place, Bool, collected_outcomes, cond, drop, false, given_outcomes, IfSome, IsPrefix, IsPrefix-along, IsPrefix-append, IsPrefix-self, JobId, Journal, length, List, list_told}
+use Rattle.judge_audit.proofs.Names.{map-append, name_collected, name_given, name_sent, names_of, None, Note, Option, order_sent, outcome_collected, outcome_given, refl, Some, subst, suc, sym, true, TurnsOff, with_last, zero, ℕ, [], ◌++◌}
+use Rattle.judge_audit.proofs.Names.{◌-◌, ◌==◌, ◌∙◌, ◌∷◌, ◌≡◌}
 use Rattle.base_words.specs.declared.note.Note.TheVariants.{Sent, Back, Answered, Done, Returned, Collected}
-use Rattle.base_words.specs.Assembly.{IsPrefix, names_of}
-use Rattle.base_words.specs.Filters.{order_sent, outcome_given, outcome_collected, accepted_orders, given_outcomes, collected_outcomes}
-use Rattle.base_words.proofs.Prefixes.{IsPrefix-along, IsPrefix-append, IsPrefix-self}
-use Rattle.base_words.specs.Journal.{Journal, list_told, with_last, at_place}
-use Rattle.judge_audit.specs.Sides.{name_sent, name_given, name_collected, TurnsOff}
 
 -- the name of an entry, if there is one
 abbrev name_in : {A : Type 0} → Option (JobId × A) → Option JobId

@@ -1,10 +1,6 @@
 -- What a verdict says of the rules.
-use Rattle.std.proofs.Common.{◌≡◌, ℕ, refl, arith}
-use Rattle.base_words.specs.Assembly.{Assembly}
-use Rattle.base_words.specs.Sound.{IsSound}
-use Rattle.judge_audit.specs.declared.judge.Verdict.{Verdict}
+use Rattle.judge_audit.proofs.Names.{arith, Assembly, IsFirstBroken, IsSound, IsVerdict, KeepsRulesBefore, refl, rule_named, Verdict, ℕ, ◌≡◌}
 use Rattle.judge_audit.specs.declared.judge.Verdict.TheVariants.{Sound, Fault}
-use Rattle.judge_audit.specs.Verdicts.{KeepsRulesBefore, IsFirstBroken, IsVerdict, rule_named}
 use Rattle.judge_audit.proofs.BrokenRules.{breaks, no_fault_if_sound}
 use Rattle.judge_audit.proofs.KeptRules.{all_before}
 

@@ -1,14 +1,6 @@
 -- The same for the cells of the receiver.
-use Rattle.std.proofs.Common.{◌≡◌, ℕ, ◌+◌, ◌<◌, ◌≤◌, inl, inr, List, [], ◌∷◌, ◌++◌, length, length-append, refl, sym, ap, ◌∙◌, arith, Some, None}
-use Rattle.std.specs.Prelude.{Option}
-use Rattle.atomic_blocks.specs.Cells.{Cell}
-use Rattle.base_words.specs.declared.order.Order.{Order}
-use Rattle.base_words.specs.declared.order.Outcome.{Outcome}
-use Rattle.link_ends.specs.Whole.{IsLink}
-use Rattle.link_ends.specs.declared.plain.Whole.{Whole}
-use Rattle.link_ends.proofs.Lists.{slice_get-starts}
-use Rattle.link_board.specs.Cells.{AreInPlace, held_outcome, order_at, outcome_at, place_of}
-use Rattle.link_board.specs.Held.{Content, of_outcome}
+use Rattle.link_board.proofs.Names.{ap, AreInPlace, arith, Cell, Content, held_outcome, inl, inr, IsLink, length, length-append, List, None, of_outcome, Option, Order, order_at, Outcome, outcome_at, place_of, refl, slice_get-starts, Some}
+use Rattle.link_board.proofs.Names.{sym, Whole, ℕ, [], ◌++◌, ◌+◌, ◌<◌, ◌∙◌, ◌∷◌, ◌≡◌, ◌≤◌}
 use Rattle.link_board.proofs.Changes.{IsChanged}
 use Rattle.link_board.proofs.InPlace.{all, AreHome-stays, AreFree-stays, AreFree-lent, AreFree-back}
 use Rattle.link_board.proofs.Windows.{slice_get-last, apart, AreHome-changed}

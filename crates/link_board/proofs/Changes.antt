@@ -1,12 +1,9 @@
 -- What a change of one cell leaves as it was.
-use Rattle.std.proofs.Common.{◌≡◌, ◌≢◌, ℕ, ◌<◌, List, length, set, get_or-set_same, get_or-set_other, length-set, sym, ap, ◌∙◌, subst}
-use Rattle.std.specs.Prelude.{Option, None}
+use Rattle.link_board.proofs.Names.{ap, Cell, cell, cell_in, Content, get_or-set_other, get_or-set_same, home_at, length, length-set, List, Option, set, subst, sym, word_at, ℕ, ◌<◌, ◌∙◌, ◌≡◌, ◌≢◌}
+use Rattle.std.specs.Prelude.{None}
 use mathlib.Core.Logic.{dite}
 use native.Mathlib.Decide.{ℕ_discrete}
 use denote.RawPtr.{null_ptr}
-use Rattle.atomic_blocks.specs.Cells.{Cell, cell, cell_in}
-use Rattle.link_board.specs.Cells.{word_at, home_at}
-use Rattle.link_board.specs.Held.{Content}
 
 module _ {J T : Type 0} where
   -- the cell has another word, and another content

@@ -1,13 +1,6 @@
 -- The rows after the board is closed: each cell is at home.
-use Rattle.std.proofs.Common.{◌≡◌, ℕ, zero, suc, ◌<◌, List, [], ◌∷◌, length, set, refl, ap, ◌∙◌, subst, arith}
+use Rattle.link_board.proofs.Names.{AllHome, ap, arith, cells_back, Content, Final, IsRing, length, List, no_row, Order, Outcome, refl, Row, row, row_at, rows_back, RowsBack, set, subst, suc, Terms, zero, ℕ, [], ◌<◌, ◌∙◌, ◌∷◌, ◌≡◌}
 use denote.RawPtr.{Ptr}
-use Rattle.atomic_blocks.specs.Cells.{Row, row, row_at, no_row, AllHome, RowsBack, Final}
-use Rattle.atomic_blocks.proofs.Homes.{cells_back, rows_back}
-use Rattle.base_words.specs.declared.order.Order.{Order}
-use Rattle.base_words.specs.declared.order.Outcome.{Outcome}
-use Rattle.link_board.specs.Rule.{IsRing}
-use Rattle.link_board.specs.declared.board.Terms.{Terms}
-use Rattle.link_board.specs.Held.{Content}
 use Rattle.link_board.proofs.Steps.{two_rows}
 
 -- a row at this place, of so many cells, all at home

@@ -1,18 +1,8 @@
 -- The steps of a seat that has a cell out, in the terms of the seat before.
-use Rattle.std.proofs.Common.{◌≡◌, ℕ, ◌+◌, ◌^◌, ◌<◌, ◌≤◌, true, false, length, eqb, refl, sym, subst, Some, None}
-use Rattle.std.specs.Prelude.{Option}
+use Rattle.link_board.proofs.Names.{Accepts, Allows, Content, eqb, false, gate_bit, Gives, Homes, Known, length, MayGive, me, None, number_before, of_order, of_outcome, Option, Order, Outcome, place_of, refl, Row, Seated, Some, step, subst}
+use Rattle.link_board.proofs.Names.{sym, Terms, true, with_away, ℕ, ◌+◌, ◌<◌, ◌^◌, ◌≡◌, ◌≤◌}
 use prog.Atomic.{either}
 use denote.RawPtr.{Ptr}
-use Rattle.atomic_blocks.specs.Cells.{Row, step, me, Allows}
-use Rattle.base_words.specs.declared.order.Order.{Order}
-use Rattle.base_words.specs.declared.order.Outcome.{Outcome}
-use Rattle.link_ends.specs.Calls.{MayGive}
-use Rattle.link_board.specs.After.{with_away}
-use Rattle.link_board.specs.Cells.{gate_bit, number_before, place_of}
-use Rattle.link_board.specs.Held.{Content, of_order, of_outcome}
-use Rattle.link_board.specs.Told.{Seated, Accepts, Homes, Gives}
-use Rattle.link_board.specs.declared.board.Known.{Known}
-use Rattle.link_board.specs.declared.board.Terms.{Terms}
 use Rattle.link_board.proofs.ReceiverSteps.{homes_answered, gives_back}
 use Rattle.link_board.proofs.SenderSteps.{accepts, homes_free}
 use Rattle.link_board.proofs.Steps.{Rule}

@@ -1,11 +1,5 @@
 -- The two seats of a board that was just made.
-use Rattle.std.proofs.Common.{◌≡◌, ◌^◌, ◌<◌, refl, sym, ap, ◌∙◌, subst, arith, None}
-use Rattle.atomic_blocks.specs.Cells.{me}
-use Rattle.link_ends.specs.Whole.{out_of, inward_of}
-use Rattle.link_board.specs.Seats.{IsSender, IsReceiver}
-use Rattle.link_board.specs.Told.{Seated}
-use Rattle.link_board.specs.Views.{fresh_link, first_view, out_part, inward_part}
-use Rattle.link_board.specs.declared.board.Terms.{Terms}
+use Rattle.link_board.proofs.Names.{ap, arith, first_view, fresh_link, inward_of, inward_part, IsReceiver, IsSender, me, None, out_of, out_part, refl, Seated, subst, sym, Terms, ◌<◌, ◌^◌, ◌∙◌, ◌≡◌}
 
 module _ {J T : Type 0} (terms : Terms J T) (first now : Seated J T) (first_is : first ≡ me (first_view terms) None None) where
   module _ (is : now ≡ me (out_part first.view) first.hand first.spare) where

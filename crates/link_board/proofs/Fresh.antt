@@ -1,12 +1,8 @@
 -- A row of cells that hold nothing, one longer.
-use Rattle.std.proofs.Common.{◌≡◌, ℕ, ◌+◌, List, [], ◌∷◌, ◌++◌, length, length-append, refl, sym, ap, ◌∙◌, subst, arith, Some, None}
+use Rattle.link_board.proofs.Names.{ap, AreFresh, arith, Cell, cell, cell_in, Content, home_more, length, length-append, List, None, refl, Some, subst, sym, ℕ, [], ◌++◌, ◌+◌, ◌∙◌, ◌∷◌, ◌≡◌}
 use mathlib.Core.Logic.{dite}
 use native.Mathlib.Decide.{ℕ_discrete}
 use denote.RawPtr.{Ptr, null_ptr}
-use Rattle.atomic_blocks.specs.Cells.{Cell, cell, cell_in}
-use Rattle.atomic_blocks.proofs.Homes.{home_more}
-use Rattle.link_board.specs.Places.{AreFresh}
-use Rattle.link_board.specs.Held.{Content}
 
 pub fresh_none : {J T : Type 0} (word : ℕ) → AreFresh {J = J} {T = T} [] 0 word
 fresh_none word = (refl, tt, λ place near. absurd (omega arith))

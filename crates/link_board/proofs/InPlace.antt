@@ -1,14 +1,6 @@
 -- The cells after one of them went out or came home, or changed what it holds.
-use Rattle.std.proofs.Common.{◌≡◌, ◌≢◌, ℕ, ◌+◌, ◌<◌, ◌≤◌, ◌⊎◌, inl, inr, ⊎_elim, List, [], ◌∷◌, ◌++◌, length, length-append, refl, sym, ap, ◌∙◌, arith, subst, true, Some, None}
-use Rattle.std.specs.Prelude.{Option}
-use Rattle.atomic_blocks.specs.Cells.{Cell}
-use Rattle.base_words.specs.declared.order.Order.{Order}
-use Rattle.base_words.specs.declared.order.Outcome.{Outcome}
-use Rattle.link_ends.specs.Whole.{IsLink}
-use Rattle.link_ends.specs.declared.plain.Whole.{Whole}
-use Rattle.link_ends.proofs.Lists.{slice_get-starts}
-use Rattle.link_board.specs.Cells.{AreHome, AreFree, AreInPlace, held_order, order_at, outcome_at, place_of, home_at}
-use Rattle.link_board.specs.Held.{Content, of_order}
+use Rattle.link_board.proofs.Names.{ap, AreFree, AreHome, AreInPlace, arith, Cell, Content, held_order, home_at, inl, inr, IsLink, length, length-append, List, None, of_order, Option, Order, order_at, Outcome, outcome_at, place_of, refl}
+use Rattle.link_board.proofs.Names.{slice_get-starts, Some, subst, sym, true, Whole, ℕ, [], ⊎_elim, ◌++◌, ◌+◌, ◌<◌, ◌∙◌, ◌∷◌, ◌≡◌, ◌≢◌, ◌≤◌, ◌⊎◌}
 use Rattle.link_board.proofs.Changes.{IsChanged}
 use Rattle.link_board.proofs.Numbers.{place-again}
 use Rattle.link_board.proofs.Windows.{slice_get-last, apart, AreHome-changed, AreFree-changed}

@@ -1,12 +1,9 @@
 -- What a cell holds is one order, or one outcome.
-use Rattle.std.proofs.Common.{◌≡◌, ℕ, Option, Some, None, refl, sym, ap, ◌∙◌}
+use Rattle.link_board.proofs.Names.{ap, Content, Held, None, of_order, of_outcome, Order, Outcome, refl, Some, sym, ℕ, ◌∙◌, ◌≡◌}
+use Rattle.std.proofs.Common.{Option}
 use denote.RawPtr.{Ptr}
-use Rattle.base_words.specs.declared.order.Order.{Order}
 use Rattle.base_words.specs.declared.order.Order.TheVariants.{Job, Create, SetShares, Close, CloseCore, Wake}
-use Rattle.base_words.specs.declared.order.Outcome.{Outcome}
 use Rattle.base_words.specs.declared.order.Outcome.TheVariants.{Finished, Returned, Answered}
-use Rattle.link_board.specs.Held.{Content, of_order, of_outcome}
-use Rattle.link_board.specs.declared.held.Held.{Held}
 use Rattle.link_board.specs.declared.held.Held.TheVariants as held
 
 module _ {J T : Type 0} where

@@ -1,25 +1,10 @@
 -- The receiver's seat is joined to the sender's, which then knows both ends.
-use Rattle.std.proofs.Common.{◌≡◌, ℕ, ◌+◌, ◌-◌, ◌<◌, ◌≤◌, ⊎_elim, true, List, length, length-take, min, take, set, refl, sym, ap, ◌∙◌, subst, arith, Option, None}
-use Rattle.std.specs.Prelude.{IfSome}
+use Rattle.link_board.proofs.Names.{Allows, ap, AreNamed, AreOf, AreTold, arith, at_set, both_parts, Compares, IfSome, Inward, IsLink, IsPrefix, IsPrefix-take, IsTold, Joined, Joins, keeps, Known, KnowsInward, KnowsOut, length, length-take}
+use Rattle.link_board.proofs.Names.{List, min, None, Order, Outcome, Outward, refl, Seated, set, set_again, slice_get-starts, spent_view, subst, sym, take, Terms, true, Whole, ℕ, ⊎_elim, ◌+◌, ◌-◌, ◌<◌, ◌∙◌, ◌≡◌, ◌≤◌}
+use Rattle.std.proofs.Common.{Option}
 use mathlib.Core.Option.{some}
 use lib.ListN.{get_elem?}
 use denote.RawPtr.{Ptr}
-use Rattle.atomic_table.proofs.Lists.{at_set, set_again}
-use Rattle.atomic_blocks.specs.Cells.{keeps, Allows, Joins}
-use Rattle.base_words.specs.Assembly.{IsPrefix}
-use Rattle.base_words.specs.declared.order.Order.{Order}
-use Rattle.base_words.specs.declared.order.Outcome.{Outcome}
-use Rattle.base_words.proofs.Prefixes.{IsPrefix-take}
-use Rattle.link_ends.specs.declared.ends.Outward.{Outward}
-use Rattle.link_ends.specs.declared.ends.Inward.{Inward}
-use Rattle.link_ends.specs.declared.plain.Whole.{Whole}
-use Rattle.link_ends.specs.Ends.{AreOf, AreNamed, Joined}
-use Rattle.link_ends.specs.Whole.{IsLink}
-use Rattle.link_ends.proofs.Lists.{slice_get-starts}
-use Rattle.link_board.specs.Told.{Seated, Compares}
-use Rattle.link_board.specs.Views.{KnowsOut, KnowsInward, AreTold, IsTold, both_parts, spent_view}
-use Rattle.link_board.specs.declared.board.Known.{Known}
-use Rattle.link_board.specs.declared.board.Terms.{Terms}
 use Rattle.link_board.proofs.Starting.{gate_lies}
 use Rattle.link_board.proofs.Steps.{Rule, on_gate, gate_keeps}
 use Rattle.link_board.proofs.Views.{true-not_false, one_sender, one_receiver}

@@ -1,13 +1,5 @@
 -- What the two ends know after each step.
-use Rattle.std.proofs.Common.{◌≡◌, ℕ, ◌+◌, ◌≤◌, true, false, List, [], ◌∷◌, ◌++◌, length, refl, ap}
-use Rattle.base_words.specs.Assembly.{IsPrefix}
-use Rattle.base_words.specs.declared.order.Order.{Order}
-use Rattle.base_words.specs.declared.order.Outcome.{Outcome}
-use Rattle.base_words.proofs.Prefixes.{IsPrefix-append}
-use Rattle.link_ends.specs.declared.ends.Outward.{Outward}
-use Rattle.link_ends.specs.declared.ends.Inward.{Inward}
-use Rattle.link_ends.specs.declared.plain.Whole.{Whole}
-use Rattle.link_board.specs.Views.{KnowsOut, KnowsInward}
+use Rattle.link_board.proofs.Names.{ap, false, Inward, IsPrefix, IsPrefix-append, KnowsInward, KnowsOut, length, List, Order, Outcome, Outward, refl, true, Whole, ℕ, [], ◌++◌, ◌+◌, ◌∷◌, ◌≡◌, ◌≤◌}
 
 module _ {J T : Type 0} (link : Whole J T) (out : Outward J T) (k : KnowsOut link out) where
   pub KnowsOut-closed : link.shut ≡ true → KnowsOut link (record out { closed = true })

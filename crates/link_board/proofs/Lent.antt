@@ -1,17 +1,7 @@
 -- A seat with a cell out, after what the cell holds was exchanged.
-use Rattle.std.proofs.Common.{◌≡◌, ℕ, ◌+◌, ◌*◌, ◌%◌, ◌^◌, ◌<◌, Bool, sym, ap, ◌∙◌, subst, arith, Some, None, mod-lt}
-use Rattle.std.proofs.lemmas.Nat.{mul-lt}
-use Rattle.std.specs.Prelude.{Option}
+use Rattle.link_board.proofs.Names.{ap, arith, Bool, Content, gate_bit, Held, Homes, Known, me, mod-lt, mul-lt, None, of_order, of_outcome, Option, Order, Outcome, place_of, Row, Seated, Some, step, subst, sym, with_away, with_closed}
+use Rattle.link_board.proofs.Names.{with_view, ℕ, ◌%◌, ◌*◌, ◌+◌, ◌<◌, ◌^◌, ◌∙◌, ◌≡◌}
 use denote.RawPtr.{Ptr}
-use Rattle.atomic_blocks.specs.Cells.{Row, me, step}
-use Rattle.base_words.specs.declared.order.Order.{Order}
-use Rattle.base_words.specs.declared.order.Outcome.{Outcome}
-use Rattle.link_board.specs.After.{with_closed, with_away}
-use Rattle.link_board.specs.Cells.{gate_bit, place_of}
-use Rattle.link_board.specs.Told.{Seated, Homes, with_view}
-use Rattle.link_board.specs.declared.board.Known.{Known}
-use Rattle.link_board.specs.Held.{Content, of_order, of_outcome}
-use Rattle.link_board.specs.declared.held.Held.{Held}
 use Rattle.link_board.proofs.Filled.{filled}
 use Rattle.link_board.proofs.Injective.{order_there, outcome_there}
 

@@ -1,14 +1,8 @@
 -- The words of the cells, when one of them changes.
-use Rattle.std.proofs.Common.{◌≡◌, ◌≢◌, ℕ, ◌+◌, ◌^◌, ◌<◌, ◌≤◌, ◌⊎◌, inl, inr, ⊎_elim, Bool, true, false, List, [], ◌∷◌, ◌++◌, length, length-append, refl, sym, ap, ◌∙◌, arith, subst}
-use Rattle.std.specs.Prelude.{Option}
+use Rattle.link_board.proofs.Names.{ap, AreMarked, arith, Bool, Cell, Content, false, gate_bit, inl, inr, IsMarked, length, length-append, List, number_before, Option, Order, Outcome, place_of, refl, subst, sym, true, Whole, word_at, ℕ, []}
+use Rattle.link_board.proofs.Names.{⊎_elim, ◌++◌, ◌+◌, ◌<◌, ◌^◌, ◌∙◌, ◌∷◌, ◌≡◌, ◌≢◌, ◌≤◌, ◌⊎◌}
 use mathlib.Core.Logic.{dite}
 use native.Mathlib.Decide.{ℕ_discrete}
-use Rattle.atomic_blocks.specs.Cells.{Cell}
-use Rattle.base_words.specs.declared.order.Order.{Order}
-use Rattle.base_words.specs.declared.order.Outcome.{Outcome}
-use Rattle.link_ends.specs.declared.plain.Whole.{Whole}
-use Rattle.link_board.specs.Cells.{AreMarked, IsMarked, gate_bit, number_before, place_of, word_at}
-use Rattle.link_board.specs.Held.{Content}
 use Rattle.link_board.proofs.Changes.{IsChanged}
 use Rattle.link_board.proofs.Numbers.{IsMarked-own, number-again, number-seen, place-again}
 use Rattle.link_board.proofs.Windows.{apart, slice_get-last}

@@ -1,14 +1,9 @@
 -- The number in the word of a cell.
-use Rattle.std.proofs.Common.{◌≡◌, ℕ, zero, suc, ◌+◌, ◌-◌, ◌*◌, ◌^◌, ◌<◌, ◌≤◌, Bool, true, false, inl, inr, List, [], ◌∷◌, length, refl, sym, ap, ◌∙◌, arith, Some, lt-ltb, le-ltb}
-use Rattle.std.specs.Prelude.{slice_get, if◌then◌else◌}
+use Rattle.link_board.proofs.Names.{ap, AreNamed, arith, Bool, false, gate_bit, if◌then◌else◌, inl, inr, IsMarked, IsPrefix, le-ltb, length, List, lt-ltb, number_before, number_of, Outcome, place_of, refl, slice_get, slice_get-starts, Some}
+use Rattle.link_board.proofs.Names.{suc, sym, true, zero, ℕ, [], ◌*◌, ◌+◌, ◌-◌, ◌<◌, ◌^◌, ◌∙◌, ◌∷◌, ◌≡◌, ◌≤◌}
 use mathlib.Core.Logic.{dite}
 use native.Mathlib.Decide.{dec_le}
 use native.Mathlib.Nat.{add-mod_right}
-use Rattle.base_words.specs.Assembly.{IsPrefix}
-use Rattle.base_words.specs.declared.order.Outcome.{Outcome}
-use Rattle.link_ends.specs.Ends.{AreNamed}
-use Rattle.link_ends.proofs.Lists.{slice_get-starts}
-use Rattle.link_board.specs.Cells.{number_before, number_of, gate_bit, IsMarked, place_of}
 
 pub slice_get-there : {A : Type 0} (xs : List A) (i : ℕ) → i < length xs → (x : A) × (slice_get xs i ≡ Some x)
 slice_get-there [] i h = absurd (omega arith)

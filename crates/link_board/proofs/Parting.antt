@@ -1,9 +1,5 @@
 -- The seat that knows both ends is parted again, into the two seats that were joined.
-use Rattle.std.proofs.Common.{◌≡◌, true, refl, sym, ap, ◌∙◌, subst, None}
-use Rattle.atomic_blocks.specs.Cells.{me}
-use Rattle.link_board.specs.Seats.{IsSender, IsReceiver}
-use Rattle.link_board.specs.Told.{Seated}
-use Rattle.link_board.specs.Views.{both_parts, out_part, inward_part}
+use Rattle.link_board.proofs.Names.{ap, both_parts, inward_part, IsReceiver, IsSender, me, None, out_part, refl, Seated, subst, sym, true, ◌∙◌, ◌≡◌}
 
 module _ {J T : Type 0} (sender receiver joined : Seated J T) (joined_is : joined ≡ me (both_parts sender.view receiver.view) sender.hand sender.spare) where
   pub sends-joined : sender.view.sends ≡ true → joined.view.sends ≡ true

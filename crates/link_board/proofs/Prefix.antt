@@ -1,13 +1,6 @@
 -- Beginnings of one list.
-use Rattle.std.proofs.Common.{◌≡◌, ℕ, zero, suc, ◌<◌, ◌≤◌, List, [], ◌∷◌, length, length-take, take, refl, ap, ◌∙◌, subst, arith, Some}
-use Rattle.std.specs.Prelude.{slice_get}
+use Rattle.link_board.proofs.Names.{ap, AreOf, arith, IsPrefix, IsPrefix-take, length, length-take, List, Order, Outcome, refl, slice_get, slice_get-seen, Some, subst, suc, take, zero, ℕ, [], ◌<◌, ◌∙◌, ◌∷◌, ◌≡◌, ◌≤◌}
 use lib.Seq.{take-take, take_at}
-use Rattle.base_words.specs.Assembly.{IsPrefix}
-use Rattle.base_words.specs.declared.order.Order.{Order}
-use Rattle.base_words.specs.declared.order.Outcome.{Outcome}
-use Rattle.base_words.proofs.Prefixes.{IsPrefix-take}
-use Rattle.link_ends.proofs.Lists.{slice_get-seen}
-use Rattle.link_ends.specs.Ends.{AreOf}
 
 slice_get-take : {A : Type 0} (m : ℕ) (xs : List A) (i : ℕ) → i < m → slice_get (take m xs) i ≡ slice_get xs i
 slice_get-take zero xs i h = absurd (omega arith)

@@ -1,25 +1,12 @@
 -- The steps of the receiver's seat by which the gate is shut: look, mark, and seal.
-use Rattle.std.proofs.Common.{◌≡◌, ◌≢◌, ℕ, ◌+◌, ◌^◌, ◌<◌, ◌≤◌, ◌⊎◌, inl, inr, ⊎_elim, true, false, List, length, take, set, eqb, refl, sym, ap, ◌∙◌, subst, arith}
+use Rattle.link_board.proofs.Names.{Allows, ap, AreTold, arith, Content, eqb, exchanged, false, Goes, home_at, inl, inr, Inward, IsLink-shut, IsPrefix-same, IsPrefix-take, keeps, Known, length, List, Looks, Marks, number_before, Order}
+use Rattle.link_board.proofs.Names.{Outcome, place_of, refl, SawOrder, Seals, Seated, set, State, step, subst, sym, take, Terms, true, with_shut, with_taken, word_at, ℕ, ⊎_elim, ◌+◌, ◌<◌, ◌^◌, ◌∙◌, ◌≡◌, ◌≢◌, ◌≤◌, ◌⊎◌}
 use mathlib.Core.Option.{some}
 use mathlib.Core.Logic.{dite}
 use native.Mathlib.Decide.{dec_le}
 use lib.ListN.{get_elem?}
 use prog.Atomic.{either}
 use denote.RawPtr.{Ptr}
-use Rattle.atomic_table.proofs.Lists.{exchanged}
-use Rattle.atomic_blocks.specs.Cells.{State, keeps, step, Goes, Allows}
-use Rattle.base_words.specs.declared.order.Order.{Order}
-use Rattle.base_words.specs.declared.order.Outcome.{Outcome}
-use Rattle.base_words.proofs.Prefixes.{IsPrefix-same, IsPrefix-take}
-use Rattle.link_ends.specs.declared.ends.Inward.{Inward}
-use Rattle.link_ends.proofs.WholeLaws.{IsLink-shut}
-use Rattle.link_board.specs.After.{with_taken, with_shut}
-use Rattle.link_board.specs.Cells.{number_before, place_of, word_at, home_at}
-use Rattle.link_board.specs.Told.{Seated, SawOrder, Looks, Marks, Seals}
-use Rattle.link_board.specs.Views.{AreTold}
-use Rattle.link_board.specs.declared.board.Known.{Known}
-use Rattle.link_board.specs.declared.board.Terms.{Terms}
-use Rattle.link_board.specs.Held.{Content}
 use Rattle.link_board.proofs.Changes.{worded, IsChanged, IsChanged-worded, homes_stay}
 use Rattle.link_board.proofs.InPlace.{AreInPlace-kept, AreInPlace-shut}
 use Rattle.link_board.proofs.Knowledge.{KnowsInward-seen, KnowsInward-shut, KnowsOut-shut}

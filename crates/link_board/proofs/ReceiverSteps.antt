@@ -1,29 +1,13 @@
 -- The steps of the receiver's seat: lift an order, home, lend back, and give.
-use Rattle.std.proofs.Common.{◌≡◌, ℕ, ◌+◌, ◌-◌, ◌^◌, ◌<◌, ◌≤◌, ⊎_elim, Bool, true, false, List, [], ◌∷◌, ◌++◌, length, set, refl, sym, ap, ◌∙◌, subst, arith, Some, None}
-use Rattle.std.specs.Prelude.{Option, slice_get, IfSome}
+use Rattle.link_board.proofs.Names.{Allows, ap, AreInPlace, AreTold, arith, Bool, Content, false, gate_bit, Gives, gives, Goes, held_order, home_at, Homes, IfSome, Inward, inward_of, IsLink-give, IsLink-take, IsMarked, IsPrefix-length}
+use Rattle.link_board.proofs.Names.{IsPrefix-self, keeps, Known, KnowsInward, LendsBack, length, LiftsOrder, List, MayGive, None, number_before, of_order, of_outcome, Option, Order, Outcome, place_of, refl, Seated, SeesOrders, set}
+use Rattle.link_board.proofs.Names.{set_again, slice_get, slice_get-seen, slice_get-starts, Some, State, step, subst, sym, takes, Terms, true, Whole, with_away, with_given, with_taken, word_at, ℕ, [], ⊎_elim, ◌++◌, ◌+◌, ◌-◌, ◌<◌, ◌^◌, ◌∙◌}
+use Rattle.link_board.proofs.Names.{◌∷◌, ◌≡◌, ◌≤◌}
 use mathlib.Core.Option.{some}
 use mathlib.Core.Logic.{dite}
 use native.Mathlib.Decide.{dec_le}
 use lib.ListN.{get_elem?}
 use denote.RawPtr.{Ptr}
-use Rattle.atomic_table.proofs.Lists.{set_again}
-use Rattle.atomic_blocks.specs.Cells.{State, keeps, takes, gives, step, Goes, Allows}
-use Rattle.base_words.specs.declared.order.Order.{Order}
-use Rattle.base_words.specs.declared.order.Outcome.{Outcome}
-use Rattle.base_words.proofs.Prefixes.{IsPrefix-self, IsPrefix-length}
-use Rattle.link_ends.specs.declared.ends.Inward.{Inward}
-use Rattle.link_ends.specs.declared.plain.Whole.{Whole}
-use Rattle.link_ends.specs.Calls.{MayGive}
-use Rattle.link_ends.specs.Whole.{inward_of}
-use Rattle.link_ends.proofs.Lists.{slice_get-starts, slice_get-seen}
-use Rattle.link_ends.proofs.WholeLaws.{IsLink-take, IsLink-give}
-use Rattle.link_board.specs.After.{with_taken, with_given, with_away}
-use Rattle.link_board.specs.Cells.{AreInPlace, IsMarked, gate_bit, held_order, number_before, place_of, word_at, home_at}
-use Rattle.link_board.specs.Held.{Content, of_order, of_outcome}
-use Rattle.link_board.specs.Told.{Seated, SeesOrders, LiftsOrder, Homes, LendsBack, Gives}
-use Rattle.link_board.specs.Views.{KnowsInward, AreTold}
-use Rattle.link_board.specs.declared.board.Known.{Known}
-use Rattle.link_board.specs.declared.board.Terms.{Terms}
 use Rattle.link_board.proofs.Answered.{AreInPlace-lent_back, AreInPlace-home, AreInPlace-taken, AreInPlace-given}
 use Rattle.link_board.proofs.Changes.{worded, homed, IsChanged, IsChanged-worded, IsChanged-both, words_stay}
 use Rattle.link_board.proofs.Injective.{of_outcome-injective, same_hand}

@@ -1,16 +1,7 @@
 -- The receiver's seat after its calls.
-use Rattle.std.proofs.Common.{◌≡◌, ℕ, ◌+◌, ◌<◌, List, [], ◌∷◌, ◌++◌, length, length-append, refl, sym, ap, ◌∙◌, subst, arith, Some, None}
-use Rattle.std.specs.Prelude.{Option, slice_get}
-use Rattle.std.proofs.lemmas.Option.{slice_get_within}
+use Rattle.link_board.proofs.Names.{ap, arith, gate_bit, Gives, IsReceiver, length, length-append, List, me, None, of_outcome, Option, Order, Outcome, refl, Seated, slice_get, slice_get_within, Some, step, subst, sym, with_away, with_given}
+use Rattle.link_board.proofs.Names.{with_taken, ℕ, [], ◌++◌, ◌+◌, ◌<◌, ◌∙◌, ◌∷◌, ◌≡◌}
 use denote.RawPtr.{Ptr}
-use Rattle.atomic_blocks.specs.Cells.{me, step}
-use Rattle.base_words.specs.declared.order.Order.{Order}
-use Rattle.base_words.specs.declared.order.Outcome.{Outcome}
-use Rattle.link_board.specs.After.{with_given, with_taken, with_away}
-use Rattle.link_board.specs.Cells.{gate_bit}
-use Rattle.link_board.specs.Held.{of_outcome}
-use Rattle.link_board.specs.Seats.{IsReceiver}
-use Rattle.link_board.specs.Told.{Seated, Gives}
 use Rattle.link_board.proofs.Filled.{filled}
 
 module _ {J T : Type 0} (old : Seated J T) (is : IsReceiver old) where

@@ -1,13 +1,7 @@
 -- What the receiver has seen after it lifted an order.
-use Rattle.std.proofs.Common.{◌≡◌, ◌+◌, ◌<◌, ◌≤◌, true, List, length, take, refl, ap, arith}
+use Rattle.link_board.proofs.Names.{ap, arith, Inward, IsPrefix, IsPrefix-self, IsPrefix-take, KnowsInward, length, List, Order, refl, take, true, Whole, ◌+◌, ◌<◌, ◌≡◌, ◌≤◌}
 use mathlib.Core.Logic.{dite}
 use native.Mathlib.Decide.{dec_le}
-use Rattle.base_words.specs.Assembly.{IsPrefix}
-use Rattle.base_words.specs.declared.order.Order.{Order}
-use Rattle.base_words.proofs.Prefixes.{IsPrefix-self, IsPrefix-take}
-use Rattle.link_ends.specs.declared.ends.Inward.{Inward}
-use Rattle.link_ends.specs.declared.plain.Whole.{Whole}
-use Rattle.link_board.specs.Views.{KnowsInward}
 use Rattle.link_board.proofs.Prefix.{IsPrefix-within, length-front}
 
 -- what the receiver has seen after a lift: as much as before where the order is there, and otherwise one more

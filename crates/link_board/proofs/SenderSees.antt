@@ -1,28 +1,13 @@
 -- The steps of the sender's seat that tell of outcomes: lift an outcome, and gather.
-use Rattle.std.proofs.Common.{◌≡◌, ◌≢◌, ℕ, ◌+◌, ◌%◌, ◌^◌, ◌<◌, ◌≤◌, inl, inr, Bool, true, false, List, length, take, set, refl, sym, ap, ◌∙◌, subst, arith, Some, None}
-use Rattle.std.specs.Prelude.{Option, slice_get}
+use Rattle.link_board.proofs.Names.{Allows, ap, AreInPlace, AreOf, arith, Bool, Content, false, Gathers, Goes, held_outcome, home_at, inl, inr, IsLink, IsLink-collect, IsLink-credit, IsMarked, IsPrefix-length, IsPrefix-self, IsPrefix-take}
+use Rattle.link_board.proofs.Names.{keeps, Known, KnowsOut, length, LiftedOutcome, LiftsOutcome, List, None, of_outcome, Option, Order, Outcome, Outward, place_of, refl, Seated, SeesOutcomes, set, slice_get, Some, State, step, subst, sym}
+use Rattle.link_board.proofs.Names.{take, takes, Terms, true, Whole, with_away, with_got, word_at, ℕ, ◌%◌, ◌+◌, ◌<◌, ◌^◌, ◌∙◌, ◌≡◌, ◌≢◌, ◌≤◌}
 use mathlib.Core.Option.{some}
 use mathlib.Core.Logic.{dite}
 use native.Mathlib.Decide.{dec_le}
 use native.Mathlib.Nat.{add-mod_right, mod-eq_of_lt}
 use lib.ListN.{get_elem?}
 use denote.RawPtr.{Ptr}
-use Rattle.atomic_blocks.specs.Cells.{State, keeps, takes, step, Goes, Allows}
-use Rattle.base_words.specs.declared.order.Order.{Order}
-use Rattle.base_words.specs.declared.order.Outcome.{Outcome}
-use Rattle.base_words.proofs.Prefixes.{IsPrefix-self, IsPrefix-length, IsPrefix-take}
-use Rattle.link_ends.specs.declared.ends.Outward.{Outward}
-use Rattle.link_ends.specs.declared.plain.Whole.{Whole}
-use Rattle.link_ends.specs.Ends.{AreOf}
-use Rattle.link_ends.specs.Whole.{IsLink}
-use Rattle.link_ends.proofs.WholeLaws.{IsLink-collect, IsLink-credit}
-use Rattle.link_board.specs.After.{with_got, with_away}
-use Rattle.link_board.specs.Cells.{AreInPlace, IsMarked, held_outcome, place_of, word_at, home_at}
-use Rattle.link_board.specs.Held.{Content, of_outcome}
-use Rattle.link_board.specs.Told.{Seated, SeesOutcomes, LiftsOutcome, LiftedOutcome, Gathers}
-use Rattle.link_board.specs.Views.{KnowsOut}
-use Rattle.link_board.specs.declared.board.Known.{Known}
-use Rattle.link_board.specs.declared.board.Terms.{Terms}
 use Rattle.link_board.proofs.Changes.{worded, homed, IsChanged, IsChanged-worded, IsChanged-both, words_stay}
 use Rattle.link_board.proofs.InPlace.{AreInPlace-got}
 use Rattle.link_board.proofs.Knowledge.{KnowsOut-got, KnowsInward-got}

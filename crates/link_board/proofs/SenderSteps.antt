@@ -1,26 +1,13 @@
 -- The steps of the sender's seat: what each keeps, and what it tells.
-use Rattle.std.proofs.Common.{◌≡◌, ◌≢◌, ℕ, ◌+◌, ◌^◌, ◌<◌, ◌≤◌, ⊎_elim, Bool, true, false, [], ◌∷◌, ◌++◌, length, set, eqb, refl, sym, ap, ◌∙◌, subst, arith, Some, None}
-use Rattle.std.specs.Prelude.{Option}
+use Rattle.link_board.proofs.Names.{Accepts, Allows, ap, AreInPlace, AreTold, arith, Bool, Content, eqb, exchanged, false, gives, Goes, home_at, Homes, IsLink-send, IsMarked, keeps, Known, KnowsOut, LendsOrder, length, None, number_before}
+use Rattle.link_board.proofs.Names.{of_order, Option, Order, Outcome, Outward, place_of, Probes, refl, Seated, set, set_again, Some, State, step, subst, sym, takes, Terms, true, Whole, with_away, with_closed, with_sent, word_at, ℕ, []}
+use Rattle.link_board.proofs.Names.{⊎_elim, ◌++◌, ◌+◌, ◌<◌, ◌^◌, ◌∙◌, ◌∷◌, ◌≡◌, ◌≢◌, ◌≤◌}
 use mathlib.Core.Option.{some}
 use mathlib.Core.Logic.{dite}
 use native.Mathlib.Decide.{ℕ_discrete}
 use lib.ListN.{get_elem?}
 use prog.Atomic.{either}
 use denote.RawPtr.{Ptr}
-use Rattle.atomic_table.proofs.Lists.{exchanged, set_again}
-use Rattle.atomic_blocks.specs.Cells.{State, keeps, takes, gives, step, Goes, Allows}
-use Rattle.base_words.specs.declared.order.Order.{Order}
-use Rattle.base_words.specs.declared.order.Outcome.{Outcome}
-use Rattle.link_ends.specs.declared.ends.Outward.{Outward}
-use Rattle.link_ends.specs.declared.plain.Whole.{Whole}
-use Rattle.link_ends.proofs.WholeLaws.{IsLink-send}
-use Rattle.link_board.specs.After.{with_sent, with_closed, with_away}
-use Rattle.link_board.specs.Cells.{AreInPlace, IsMarked, number_before, place_of, word_at, home_at}
-use Rattle.link_board.specs.Held.{Content, of_order}
-use Rattle.link_board.specs.Told.{Seated, LendsOrder, Accepts, Probes, Homes}
-use Rattle.link_board.specs.Views.{KnowsOut, AreTold}
-use Rattle.link_board.specs.declared.board.Known.{Known}
-use Rattle.link_board.specs.declared.board.Terms.{Terms}
 use Rattle.link_board.proofs.Changes.{worded, homed, IsChanged, IsChanged-worded, IsChanged-both, words_stay}
 use Rattle.link_board.proofs.InPlace.{AreInPlace-lent, AreInPlace-back, AreInPlace-sent}
 use Rattle.link_board.proofs.Injective.{of_order-injective, same_hand}

@@ -1,18 +1,7 @@
 -- The board at the start, a seat that only looks, and the seat that is parted.
-use Rattle.std.proofs.Common.{◌≡◌, ℕ, ◌+◌, ◌*◌, ◌^◌, ◌<◌, inl, inr, ⊎_elim, true, List, [], ◌∷◌, length, set, refl, sym, ◌∙◌, arith, subst, None}
+use Rattle.link_board.proofs.Names.{AreFresh, arith, at_set, Cell, cell_in, Content, Enters, first_view, fresh_link, inl, inr, inward_part, IsLink-fresh, IsPrefix-self, IsTold, Known, length, Lies, List, None, Order, out_part, Outcome}
+use Rattle.link_board.proofs.Names.{place_of, refl, Row, row_at, set, spent_view, Splits, State, subst, sym, Terms, true, ℕ, [], ⊎_elim, ◌*◌, ◌+◌, ◌<◌, ◌^◌, ◌∙◌, ◌∷◌, ◌≡◌}
 use denote.RawPtr.{Ptr}
-use Rattle.atomic_table.proofs.Lists.{at_set}
-use Rattle.atomic_blocks.specs.Cells.{State, Cell, Row, row_at, cell_in, Lies, Splits, Enters}
-use Rattle.base_words.specs.declared.order.Order.{Order}
-use Rattle.base_words.specs.declared.order.Outcome.{Outcome}
-use Rattle.base_words.proofs.Prefixes.{IsPrefix-self}
-use Rattle.link_ends.proofs.WholeLaws.{IsLink-fresh}
-use Rattle.link_board.specs.Cells.{place_of}
-use Rattle.link_board.specs.Places.{AreFresh}
-use Rattle.link_board.specs.Views.{IsTold, fresh_link, first_view, out_part, inward_part, spent_view}
-use Rattle.link_board.specs.declared.board.Known.{Known}
-use Rattle.link_board.specs.declared.board.Terms.{Terms}
-use Rattle.link_board.specs.Held.{Content}
 use Rattle.link_board.proofs.Numbers.{number-low}
 use Rattle.link_board.proofs.Steps.{Rule}
 use Rattle.link_board.proofs.Views.{true-not_false, at_end, only_one, one_sender, one_receiver}

@@ -1,16 +1,7 @@
 -- What a step on the word of a cell, or of the gate, owes.
-use Rattle.std.proofs.Common.{◌≡◌, ℕ, ◌<◌, List, [], ◌∷◌, length, refl, sym, ◌∙◌, subst, arith}
+use Rattle.link_board.proofs.Names.{AreTold, arith, Cell, cell, Content, Goes, home_at, IsRing, Known, length, Lies, List, Order, Outcome, place_of, refl, Row, row_at, Seated, State, subst, sym, Terms, with_word, word_at, word_of, ℕ, []}
+use Rattle.link_board.proofs.Names.{◌<◌, ◌∙◌, ◌∷◌, ◌≡◌}
 use denote.RawPtr.{Ptr}
-use Rattle.atomic_blocks.specs.Cells.{State, Cell, Row, cell, row_at, Lies, Goes, word_of, with_word}
-use Rattle.base_words.specs.declared.order.Order.{Order}
-use Rattle.base_words.specs.declared.order.Outcome.{Outcome}
-use Rattle.link_board.specs.Cells.{place_of, word_at, home_at}
-use Rattle.link_board.specs.Rule.{IsRing}
-use Rattle.link_board.specs.Told.{Seated}
-use Rattle.link_board.specs.Views.{AreTold}
-use Rattle.link_board.specs.declared.board.Known.{Known}
-use Rattle.link_board.specs.declared.board.Terms.{Terms}
-use Rattle.link_board.specs.Held.{Content}
 use Rattle.link_board.proofs.Changes.{worded, IsChanged, IsChanged-worded, words_stay, homes_stay}
 use Rattle.link_board.proofs.InPlace.{AreInPlace-kept}
 use Rattle.link_board.proofs.Marks.{AreMarked-kept}

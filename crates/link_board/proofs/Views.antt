@@ -1,14 +1,7 @@
 -- What the seats know after one of them has made a step.
-use Rattle.std.proofs.Common.{◌≡◌, ℕ, zero, suc, ◌⊎◌, inl, inr, true, false, ⊎_elim, List, [], ◌∷◌, ◌++◌, length, set, refl, sym, ap, ◌∙◌, subst}
-use Rattle.std.specs.Prelude.{Option}
+use Rattle.link_board.proofs.Names.{ap, AreTold, at_set, false, inl, inr, Inward, IsTold, Known, KnowsInward, KnowsOut, length, List, Option, Outward, refl, set, subst, suc, sym, true, Whole, zero, ℕ, [], ⊎_elim, ◌++◌, ◌∙◌, ◌∷◌, ◌≡◌, ◌⊎◌}
 use mathlib.Core.Option.{some, some-injective, some-ne-none}
 use lib.ListN.{get_elem?}
-use Rattle.atomic_table.proofs.Lists.{at_set}
-use Rattle.link_ends.specs.declared.ends.Outward.{Outward}
-use Rattle.link_ends.specs.declared.ends.Inward.{Inward}
-use Rattle.link_ends.specs.declared.plain.Whole.{Whole}
-use Rattle.link_board.specs.Views.{KnowsOut, KnowsInward, IsTold, AreTold}
-use Rattle.link_board.specs.declared.board.Known.{Known}
 
 pub true-not_false : true ≡ false → ⊥
 true-not_false e = cc

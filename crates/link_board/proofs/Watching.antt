@@ -1,16 +1,8 @@
 -- The receiver's seat while it shuts the gate.
-use Rattle.std.proofs.Common.{◌≡◌, ℕ, ◌+◌, ◌^◌, ◌<◌, ◌≤◌, ◌⊎◌, true, false, length, eqb, sym, ap, ◌∙◌, subst, arith}
+use Rattle.link_board.proofs.Names.{Allows, ap, arith, eqb, false, IsPrefix-along, IsPrefix-length, IsReceiver, length, Looks, Marks, number_before, Order, Outcome, place_of, SawOrder, Seals, Seated, SeesOrders, step, subst, sym, Terms}
+use Rattle.link_board.proofs.Names.{true, Watches, with_shut, with_taken, with_view, with_watched, ℕ, ◌+◌, ◌<◌, ◌^◌, ◌∙◌, ◌≡◌, ◌≤◌, ◌⊎◌}
 use prog.Atomic.{either}
 use denote.RawPtr.{Ptr}
-use Rattle.atomic_blocks.specs.Cells.{step, Allows}
-use Rattle.base_words.proofs.Prefixes.{IsPrefix-along, IsPrefix-length}
-use Rattle.base_words.specs.declared.order.Order.{Order}
-use Rattle.base_words.specs.declared.order.Outcome.{Outcome}
-use Rattle.link_board.specs.After.{with_taken, with_shut, with_watched}
-use Rattle.link_board.specs.Cells.{number_before, place_of}
-use Rattle.link_board.specs.Seats.{IsReceiver, Watches}
-use Rattle.link_board.specs.Told.{Seated, SeesOrders, SawOrder, Looks, Marks, Seals, with_view}
-use Rattle.link_board.specs.declared.board.Terms.{Terms}
 use Rattle.link_board.proofs.ReceiverShuts.{looks, marks, seals}
 use Rattle.link_board.proofs.Steps.{Rule}
 

@@ -1,13 +1,8 @@
 -- Cells that are at home, or hold nothing, when one of them changes.
-use Rattle.std.proofs.Common.{◌≡◌, ◌≢◌, ℕ, ◌+◌, ◌*◌, ◌/◌, ◌%◌, ◌<◌, ◌≤◌, ◌⊎◌, inl, inr, ⊎_elim, List, sym, ap, ◌∙◌, arith, subst, mod-lt, [], ◌∷◌, ◌++◌, Some, refl, length, None}
-use Rattle.std.specs.Prelude.{Option, slice_get}
+use Rattle.link_board.proofs.Names.{ap, AreFree, AreHome, arith, Cell, Content, home_at, inl, inr, length, List, mod-lt, mul-div_cancel_left, None, one_turn, Option, place_of, refl, slice_get, Some, subst, sym, ℕ, [], ⊎_elim, ◌%◌, ◌*◌}
+use Rattle.link_board.proofs.Names.{◌++◌, ◌+◌, ◌/◌, ◌<◌, ◌∙◌, ◌∷◌, ◌≡◌, ◌≢◌, ◌≤◌, ◌⊎◌}
 use mathlib.Core.Logic.{dite}
 use native.Mathlib.Decide.{ℕ_discrete}
-use Rattle.std.proofs.Math.Nat.{mul-div_cancel_left}
-use Rattle.atomic_blocks.specs.Cells.{Cell}
-use Rattle.atomic_table.proofs.Lists.{one_turn}
-use Rattle.link_board.specs.Cells.{AreHome, AreFree, place_of, home_at}
-use Rattle.link_board.specs.Held.{Content}
 use Rattle.link_board.proofs.Changes.{IsChanged}
 
 -- the last element of a list

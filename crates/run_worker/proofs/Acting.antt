@@ -1,21 +1,9 @@
 -- What a core may write while it polls, and what leaves it polling.
-use Rattle.std.proofs.Common.{◌≡◌, ◌≢◌, inl, inr, ℕ, List, [], ◌∷◌, ◌++◌, length, refl, sym, ◌∙◌, ap, subst, arith}
-use Rattle.std.specs.Prelude.{Bool, true, false}
-use Rattle.std.proofs.lemmas.List.{length-append}
-use Rattle.base_words.specs.declared.names.JobId.{JobId}
-use Rattle.base_words.specs.declared.note.Note.{Note}
+use Rattle.run_worker.proofs.Names.{ActsAsItMay, ActsByCommand, ap, AreCollected, ArePosts, arith, Bool, EachNote, false, inl, inr, IsPolling, IsSameSeat, JobId, jobs_out, Journal, least_free, length, length-append, List, MayAct, names_but}
+use Rattle.run_worker.proofs.Names.{Note, poll_note, RecordedView, refl, settle_note, Settled, subst, sym, true, ℕ, [], ◌++◌, ◌∙◌, ◌∷◌, ◌≡◌, ◌≢◌}
 use Rattle.base_words.specs.declared.note.Note.TheVariants as writes
-use Rattle.base_words.specs.Journal.{Journal, EachNote}
-use Rattle.base_words.specs.Lines.{jobs_out, names_but}
-use Rattle.core_core.specs.declared.turn.Settled.{Settled}
 use Rattle.core_core.specs.declared.turn.Settled.TheVariants as settled
-use Rattle.actor_core.specs.Polls.{poll_note, settle_note}
-use Rattle.actor_desk.specs.Posts.{ArePosts}
-use Rattle.actor_desk.specs.Tickets.{AreCollected}
-use Rattle.actor_core.specs.Ends.{IsSameSeat}
-use Rattle.actor_core.specs.Recorded.{RecordedView}
 use Rattle.run_worker.proofs.Spare.{least_along}
-use Rattle.run_worker.specs.Rooms.{least_free, ActsAsItMay, ActsByCommand, IsPolling, MayAct}
 
 more_than_none : {A : Type 0} (items : List A) (item : A) → items ++ item ∷ [] ≢ []
 more_than_none items item none = absurd (omega (arith, ap length none, length-append items (item ∷ [])))

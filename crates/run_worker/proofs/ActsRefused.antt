@@ -1,12 +1,9 @@
 -- Small journals of a core that sends, redeems or lets go while none of its jobs is polled, or closes by itself where it may not.
-use Rattle.std.proofs.Common.{ℕ, ◌≤◌, [], ◌∷◌, refl, inl, inr, arith}
-use Rattle.base_words.specs.declared.names.JobId.{JobId}
+use Rattle.run_worker.proofs.Names.{arith, EachNote, inl, inr, JobId, Journal, MayAct, refl, ℕ, [], ◌∷◌, ◌≤◌}
 use Rattle.base_words.specs.declared.note.Note.TheVariants.{CoreClosed, Sent, Redeemed, Detached, Took, Pick, Start, Done}
 use Rattle.base_words.specs.declared.order.Mode.TheVariants.{Finish, Return}
 use Rattle.base_words.specs.declared.note.OutcomeNote.TheVariants.{Finished}
 use Rattle.base_words.specs.declared.order.Order.TheVariants.{CloseCore}
-use Rattle.base_words.specs.Journal.{Journal, EachNote}
-use Rattle.run_worker.specs.Rooms.{MayAct}
 
 -- a job from the outside actor to core 0, and a submission of core 0 to itself
 abbrev job : JobId

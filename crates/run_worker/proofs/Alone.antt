@@ -1,16 +1,7 @@
 -- What is told of a core that closed by itself stays told.
-use Rattle.std.proofs.Common.{◌≡◌, ◌||◌, true, false, ℕ, ap, ◌∙◌}
-use Rattle.std.proofs.lemmas.Bool.{false≢true}
-use Rattle.std.specs.Prelude.{Bool, None, is_some, not}
-use Rattle.base_words.specs.Commands.{effect_awaited}
-use Rattle.base_words.specs.Journal.{Journal}
+use Rattle.run_worker.proofs.Names.{ap, Bool, closed_by_itself, ClosesItself, effect_awaited, false≢true, Grows, is_some, Journal, None, not, RecordedView, stays-told, TellsAlone, ℕ, ◌||◌, ◌∙◌, ◌≡◌}
+use Rattle.std.proofs.Common.{true, false}
 use Rattle.base_words.specs.declared.order.Mode.TheVariants.{Return}
-use Rattle.actor_core.specs.Recorded.{RecordedView}
-use Rattle.actor_core.specs.Steps.{ClosesItself}
-use Rattle.run_watch.specs.Closed.{closed_by_itself}
-use Rattle.run_watch.proofs.Closed.{stays-told}
-use Rattle.actor_seat.specs.Linked.{Grows}
-use Rattle.run_worker.specs.Shown.{TellsAlone}
 
 -- nobody tells of it yet
 pub alone_none : (notes : Journal ℕ) → TellsAlone false notes

@@ -1,28 +1,10 @@
 -- Which steps note a poll, and that the gate is asked for each.
-use Rattle.std.proofs.Common.{◌≡◌, inl, inr, ℕ, List, [], ◌∷◌, ◌++◌, refl, sym, ◌∙◌, ap, subst}
-use Rattle.std.specs.Prelude.{Bool, true, false, Option, Some, None}
-use Rattle.std.proofs.lemmas.List.{append_assoc}
-use Rattle.base_words.specs.declared.names.JobId.{JobId}
-use Rattle.base_words.specs.declared.note.Note.{Note}
+use Rattle.run_worker.proofs.Names.{Answer, ap, append_assoc, AreCollected, ArePosts, AsksFor, AsksSince, Bool, CollectsOf, DeliversFrom, effect_note, entry_note, false, inl, inr, IsDelivery, JobId, Journal, JournalView, LinkedView, List}
+use Rattle.run_worker.proofs.Names.{None, Note, NotesNoPoll, Option, Order, poll_note, polls_of, Reason, refl, refusal, settle_note, Settled, Some, subst, sym, true, with_effect, WritesReturn, WritesShut, ℕ, [], ◌++◌, ◌∙◌, ◌∷◌, ◌≡◌}
 use Rattle.base_words.specs.declared.note.Note.TheVariants as writes
-use Rattle.base_words.specs.declared.order.Answer.{Answer}
 use Rattle.base_words.specs.declared.order.Answer.TheVariants as answers
-use Rattle.base_words.specs.declared.order.Order.{Order}
 use Rattle.base_words.specs.declared.order.Order.TheVariants.{Job, Create, SetShares, Close, CloseCore, Wake}
-use Rattle.base_words.specs.declared.order.Reason.{Reason}
-use Rattle.base_words.specs.Commands.{effect_note, refusal}
-use Rattle.base_words.specs.Journal.{Journal}
-use Rattle.core_core.specs.declared.turn.Settled.{Settled}
 use Rattle.core_core.specs.declared.turn.Settled.TheVariants as settled
-use Rattle.actor_core.specs.Deliveries.{IsDelivery, entry_note, with_effect}
-use Rattle.actor_core.specs.Polls.{poll_note, settle_note}
-use Rattle.actor_desk.specs.Posts.{ArePosts}
-use Rattle.actor_desk.specs.Tickets.{AreCollected}
-use Rattle.note_journal.specs.Journals.{JournalView}
-use Rattle.run_worker.specs.Asks.{polls_of, NotesNoPoll, AsksFor, AsksSince}
-use Rattle.run_worker.specs.Gates.{WritesShut, WritesReturn}
-use Rattle.actor_seat.specs.Linked.{LinkedView}
-use Rattle.actor_seat.specs.Steps.{DeliversFrom, CollectsOf}
 
 module _ {T : Type 0} where
   pub posts_note_none : (notes before : Journal T) → ArePosts notes → NotesNoPoll before (notes ++ before)

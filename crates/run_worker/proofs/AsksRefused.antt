@@ -1,7 +1,5 @@
 -- Polls of one job for which a gate that counts its questions wasn't asked as it is to be.
-use Rattle.std.proofs.Common.{◌≡◌, ℕ, ◌+◌, [], ◌∷◌, arith}
-use Rattle.base_words.specs.declared.names.JobId.{JobId}
-use Rattle.run_worker.specs.Asks.{AsksFor}
+use Rattle.run_worker.proofs.Names.{arith, AsksFor, JobId, ℕ, [], ◌+◌, ◌∷◌, ◌≡◌}
 
 abbrev job : JobId
 job = record { from = 1; to = 0; number = 1 }

@@ -1,15 +1,8 @@
 -- A step that notes no poll opens no turn.
-use Rattle.std.proofs.Common.{◌≡◌, ℕ, suc, ◌≤◌, List, [], ◌∷◌, ◌++◌, length, refl, sym, ◌∙◌, ap, subst, arith}
-use Rattle.std.specs.Prelude.{Bool, true, false, Option, Some, None, if◌then◌else◌}
-use Rattle.base_words.specs.declared.names.JobId.{JobId}
-use Rattle.base_words.specs.declared.note.Note.{Note}
+use Rattle.run_worker.proofs.Names.{ap, arith, Bool, false, Grows, has_bursts, IsBetweenTurns, IsOpening, JobId, Journal, length, LinkedView, List, name_polled, None, Note, NotesNoPoll, Option, polls_of, queue_begun_last, queue_in_turn}
+use Rattle.run_worker.proofs.Names.{RecordedView, refl, Some, StaysLinked, subst, suc, sym, true, with_poll, ℕ, [], ◌++◌, ◌∙◌, ◌∷◌, ◌≡◌, ◌≤◌}
+use Rattle.std.specs.Prelude.{if◌then◌else◌}
 use Rattle.base_words.specs.declared.note.Note.TheVariants as writes
-use Rattle.base_words.specs.Bursts.{has_bursts, queue_begun_last, queue_in_turn}
-use Rattle.base_words.specs.Commands.{IsOpening}
-use Rattle.base_words.specs.Journal.{Journal}
-use Rattle.actor_core.specs.Recorded.{RecordedView}
-use Rattle.run_worker.specs.Asks.{NotesNoPoll, name_polled, polls_of, with_poll}
-use Rattle.actor_seat.specs.Linked.{Grows, IsBetweenTurns, LinkedView, StaysLinked}
 
 -- one poll more, or none
 no_fewer : (name : Option JobId) (polls : List JobId) → length polls ≤ length (with_poll name polls)

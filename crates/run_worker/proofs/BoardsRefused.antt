@@ -1,8 +1,6 @@
 -- Publications that are refused: left out, too early, once too often, stale, or on another board.
-use Rattle.std.proofs.Common.{◌≡◌, ◌⊎◌, Bool, true, false, inl, inr, ℕ, ◌≤◌, [], ◌∷◌, length, refl, ap, arith}
-use Rattle.base_words.specs.Journal.{Journal}
-use Rattle.run_worker.specs.Serves.{ShowsAgain, ShowsEnd}
-use Rattle.run_worker.specs.Shown.{CantShow, IsShownWhole, ShownView, Shows}
+use Rattle.run_worker.proofs.Names.{ap, arith, CantShow, inl, inr, IsShownWhole, Journal, length, refl, ShownView, Shows, ShowsAgain, ShowsEnd, ℕ, [], ◌∷◌, ◌≡◌, ◌≤◌, ◌⊎◌}
+use Rattle.std.proofs.Common.{Bool, true, false}
 use Rattle.run_worker.proofs.SmallWorkers.{SmallWorker, board_of, linked_of, one_note, small_worker}
 
 -- a worker with one note, that counted so many rounds since it published

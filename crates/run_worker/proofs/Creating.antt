@@ -1,18 +1,8 @@
 -- A loop over the queues of a configuration, which creates those of one core.
-use Rattle.std.proofs.Common.{◌≡◌, ◌≢◌, ℕ, suc, ◌+◌, ◌<◌, ◌≤◌, Bool, if◌then◌else◌, List, ◌∷◌, drop, get_or, length, refl, sym, ◌∙◌, ap, subst, arith}
-use Rattle.std.proofs.Math.Seq.{drop-cons}
-use Rattle.std.proofs.lemmas.Bool.{eq-eqb, ne_eqb}
-use Rattle.std.proofs.lemmas.List.{drop_all}
+use Rattle.run_worker.proofs.Names.{ap, arith, behind_entries, behind_entry, created_count, created_more, created_none, CreatesSince, drop, drop-cons, drop_all, Entry, eq-eqb, get_or, if◌then◌else◌, IsOpening, IsRecorded, Journal, length}
+use Rattle.run_worker.proofs.Names.{List, Meaning, ne_eqb, queues_away, queues_here, queues_none, queues_of, RecordedView, refl, subst, suc, sym, ℕ, ◌+◌, ◌<◌, ◌∙◌, ◌∷◌, ◌≡◌, ◌≢◌, ◌≤◌}
+use Rattle.std.proofs.Common.{Bool}
 use Rattle.base_words.specs.declared.note.Note.TheVariants.{Created}
-use Rattle.base_words.specs.Journal.{Journal}
-use Rattle.base_words.specs.Commands.{IsOpening, created_count}
-use Rattle.base_jobs.specs.Meanings.{Meaning}
-use Rattle.run_config.specs.Configs.{Entry, queues_of}
-use Rattle.run_config.proofs.Counts.{queues_here, queues_away, queues_none}
-use Rattle.actor_core.specs.Recorded.{RecordedView, IsRecorded}
-use Rattle.actor_seat.specs.Opening.{CreatesSince}
-use Rattle.run_worker.specs.Queues.{behind_entry, behind_entries}
-use Rattle.actor_seat.proofs.Opened.{created_none, created_more}
 
 module _ {T : Type 0} (queues : List Entry) (index : ℕ) (none : Entry) (low : index < length queues) (core : ℕ) where
   next_entry : (before : Journal T) → behind_entries core (drop index queues) before ≡ behind_entries core (drop (suc index) queues) (behind_entry core (get_or queues index none) before)

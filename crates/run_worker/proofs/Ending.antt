@@ -1,24 +1,7 @@
 -- Workers that have ended and the outside actor are recorded actors together.
-use Rattle.std.proofs.Common.{◌≡◌, ◌≢◌, ℕ, ◌<◌, ◌≤◌, List, [], ◌∷◌, ◌++◌, length, map, get_or, sym, ◌∙◌, ap, subst, arith, ⊎_elim}
-use Rattle.std.specs.Prelude.{None}
-use Rattle.std.proofs.lemmas.Bool.{cases_eq}
-use Rattle.std.proofs.lemmas.List.{get_or-map, get_or_append_left, length-map}
-use Rattle.std.proofs.lemmas.Option.{slice_get-get_or}
-use Rattle.std.proofs.Math.Seq.{get_or-append_seam}
-use Rattle.base_words.specs.Assembly.{Assembly, journal_of}
-use Rattle.base_words.specs.Bursts.{queue_in_turn}
-use Rattle.base_words.specs.Closing.{IsDrained}
-use Rattle.base_jobs.specs.Meanings.{Meaning}
-use Rattle.actor_desk.specs.Submissions.{IsWritten, terms_of_desk}
-use Rattle.actor_core.specs.Recorded.{desk_of}
-use Rattle.actor_desk.specs.Ends.{IsOutOf}
-use Rattle.actor_core.specs.Together.{AreTogether, IsAssemblyOf}
-use Rattle.link_ring.specs.Ends.{out_at, in_at, no_out}
-use Rattle.link_ring.specs.Grid.{ends_at, no_ends}
-use Rattle.actor_seat.specs.Linked.{LinkedView}
-use Rattle.actor_seat.specs.OutsideSeats.{OutsideView}
-use Rattle.run_worker.specs.Together.{HaveEnded, desk_among, all_ends}
-use Rattle.actor_seat.specs.Together.{no_linked, worker_at}
+use Rattle.run_worker.proofs.Names.{all_ends, ap, AreTogether, arith, Assembly, cases_eq, desk_among, desk_of, ends_at, get_or, get_or-append_seam, get_or-map, get_or_append_left, HaveEnded, in_at, IsAssemblyOf, IsDrained, IsOutOf}
+use Rattle.run_worker.proofs.Names.{IsWritten, journal_of, length, length-map, LinkedView, List, map, Meaning, no_ends, no_linked, no_out, None, out_at, OutsideView, queue_in_turn, slice_get-get_or, subst, sym, terms_of_desk, worker_at, ℕ}
+use Rattle.run_worker.proofs.Names.{[], ⊎_elim, ◌++◌, ◌<◌, ◌∙◌, ◌∷◌, ◌≡◌, ◌≢◌, ◌≤◌}
 
 module _ {A B : Type 0} (f : A → B) (xs : List A) (x none : B) (d : A) where
   -- an element before the last of a list that is made of others

@@ -1,16 +1,8 @@
 -- What small workers leave at their end that is refused: a core that closed by itself, notes that are kept, a board that is behind, another sink.
-use Rattle.std.proofs.Common.{◌≡◌, ◌⊎◌, inl, inr, ℕ, [], ◌∷◌, length, sym, ◌∙◌, ap, arith}
-use Rattle.base_words.specs.declared.names.JobId.{JobId}
+use Rattle.run_worker.proofs.Names.{ActsUnlessRefused, ap, arith, EndedView, HasEnded, inl, inr, IsBetweenTurns, JobId, Journal, KeepsOn, length, Meaning, opened_beside, ServesToItsEnd, ShownView, Shows, sym, WorkerView, ℕ, [], ◌∙◌, ◌∷◌}
+use Rattle.run_worker.proofs.Names.{◌≡◌, ◌⊎◌}
 use Rattle.base_words.specs.declared.note.Note.TheVariants.{CoreClosed, Pick, Start, Took, Yield}
 use Rattle.base_words.specs.declared.order.Mode.TheVariants.{Return}
-use Rattle.base_words.specs.Journal.{Journal}
-use Rattle.base_jobs.specs.Meanings.{Meaning}
-use Rattle.actor_core.specs.Steps.{opened_beside}
-use Rattle.run_worker.specs.Ended.{ActsUnlessRefused, EndedView, HasEnded}
-use Rattle.actor_seat.specs.Linked.{IsBetweenTurns}
-use Rattle.run_worker.specs.Serves.{ServesToItsEnd}
-use Rattle.run_worker.specs.Shown.{ShownView, Shows}
-use Rattle.run_worker.specs.Workers.{KeepsOn, WorkerView}
 use Rattle.run_worker.proofs.ServesRefused.{always, has, never, silent, twice, unasked}
 use Rattle.run_worker.proofs.SmallWorkers.{SmallWorker, board_of, linked_of, one_note}
 use Rattle.run_worker.proofs.Supplied.{hands_notes}

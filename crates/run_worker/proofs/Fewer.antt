@@ -1,21 +1,8 @@
 -- How many notes the steps of a worker write, one after another.
-use Rattle.std.proofs.Common.{◌≡◌, inl, inr, ℕ, ◌+◌, ◌*◌, ◌≤◌, length, refl, sym, ◌∙◌, ap, subst, arith}
-use Rattle.std.specs.Prelude.{◌||◌, Bool, true, false}
-use Rattle.std.proofs.Math.Nat.{add-mul, mul_left_comm}
-use Rattle.base_words.specs.declared.names.JobId.{JobId}
-use Rattle.base_jobs.specs.Meanings.{Meaning}
-use Rattle.actor_core.specs.Ends.{IsSameSeat}
-use Rattle.actor_core.specs.Recorded.{RecordedView}
-use Rattle.actor_seat.specs.Linked.{LinkedView}
-use Rattle.run_worker.specs.Ended.{ServedView}
-use Rattle.run_worker.specs.Few.{RoundsFew, TurnsFew, WritesFew, most_of_turn}
-use Rattle.run_worker.specs.Looks.{RoundView, TurnsAlone}
-use Rattle.run_worker.specs.Readings.{TimesNext}
-use Rattle.run_worker.specs.Rooms.{IsShort, least_free}
-use Rattle.run_worker.specs.Rounds.{LooksAtRoom, StepsServed}
-use Rattle.run_worker.specs.Turns.{TakesTurn}
+use Rattle.run_worker.proofs.Names.{add-mul, ap, arith, Bool, false, inl, inr, IsSameSeat, IsShort, JobId, least_free, length, LinkedView, LooksAtRoom, Meaning, most_of_turn, mul_left_comm, RecordedView, refl, RoundsFew, RoundView}
+use Rattle.run_worker.proofs.Names.{seat_along, ServedView, StepsServed, subst, sym, TakesTurn, TimesNext, true, TurnsAlone, TurnsFew, WritesFew, ℕ, ◌*◌, ◌+◌, ◌∙◌, ◌≡◌, ◌≤◌}
+use Rattle.std.specs.Prelude.{◌||◌}
 use Rattle.run_worker.proofs.Spare.{least_along, ends_once, places_all}
-use Rattle.actor_seat.proofs.Along.{seat_along}
 use Rattle.run_worker.proofs.Telling.{same_between, steps_more}
 
 module _ {J T : Type 0} where

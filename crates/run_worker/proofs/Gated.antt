@@ -1,33 +1,13 @@
 -- Gates that are shut one after another, and the room that is left behind.
-use Rattle.std.proofs.Common.{◌≡◌, ◌≢◌, inl, inr, ℕ, suc, ◌+◌, ◌*◌, ◌≤◌, cond, ◌∷◌, length, refl, sym, ◌∙◌, ap, subst, arith, ⊎_elim}
-use Rattle.std.specs.Prelude.{Bool, true, false, Option, Some, None, unwrap_or, is_some, IsSome}
-use Rattle.std.proofs.lemmas.Bool.{cases_eq, eq-eqb, ne_eqb}
+use Rattle.run_worker.proofs.Names.{ActsAsItMay, ActsByCommand, ap, arith, Bool, cases_eq, closes, ClosesItself, cond, core_mode, EachNote, eq-eqb, false, final_count, final_of, given_count, HasSpare, in_at, inl, inr, Inward, is_some}
+use Rattle.run_worker.proofs.Names.{IsEnding, IsInOf, IsLinked, IsShort, IsShutWithin, IsSome, Journal, JournalView, KeepsTaken, last_through, least_free, LeavesReturning, LeavesShut, length, length-map, LinkedView, MayAct, Meaning, Mode}
+use Rattle.run_worker.proofs.Names.{name_of, ne_eqb, None, NotesNoPoll, Option, or_else, outcome_note, RecordedView, refl, seat_along, ShutsFirst, ShutsGate, Some, SoundIn, stays_along, stays_same, StaysLinked, subst, suc, sum_upto, sym}
+use Rattle.run_worker.proofs.Names.{true, unwrap_or, WritesReturn, WritesShut, ℕ, ⊎_elim, ◌*◌, ◌+◌, ◌∙◌, ◌∷◌, ◌≡◌, ◌≢◌, ◌≤◌}
 use Rattle.base_words.specs.declared.note.Note.TheVariants.{Shut}
-use Rattle.base_words.specs.declared.order.Mode.{Mode}
 use Rattle.base_words.specs.declared.order.Mode.TheVariants.{Finish, Return}
-use Rattle.base_words.specs.Journal.{Journal, EachNote, or_else}
-use Rattle.base_words.specs.Closing.{closes, core_mode, final_count}
-use Rattle.base_jobs.specs.Meanings.{Meaning}
-use Rattle.link_ends.specs.declared.ends.Inward.{Inward}
-use Rattle.link_ends.specs.Ends.{SoundIn}
-use Rattle.link_ends.specs.Calls.{final_of}
-use Rattle.note_journal.specs.Journals.{JournalView}
-use Rattle.actor_core.specs.Recorded.{RecordedView, sum_upto, given_count}
-use Rattle.actor_core.specs.Ends.{IsInOf}
-use Rattle.actor_desk.specs.Ends.{name_of}
-use Rattle.link_ring.specs.Ends.{in_at}
-use Rattle.base_words.specs.Outcomes.{outcome_note}
-use Rattle.actor_core.specs.Steps.{ClosesItself}
-use Rattle.actor_seat.specs.Linked.{LinkedView, IsLinked, StaysLinked}
-use Rattle.actor_seat.specs.Steps.{ShutsGate}
-use Rattle.run_worker.specs.Gates.{WritesShut, WritesReturn, IsShutWithin, LeavesShut, LeavesReturning, ShutsFirst, KeepsTaken}
-use Rattle.run_worker.specs.Rooms.{last_through, least_free, MayAct, ActsAsItMay, ActsByCommand, HasSpare, IsShort, IsEnding}
 use Rattle.run_worker.proofs.Acting.{acts_at, command_acts}
-use Rattle.actor_seat.proofs.Along.{seat_along, stays_along, stays_same}
 use Rattle.run_worker.proofs.Asking.{return_notes_none, shut_notes_none}
-use Rattle.run_worker.specs.Asks.{NotesNoPoll}
 use Rattle.run_worker.proofs.Spare.{sums_within, places_more}
-use Rattle.std.proofs.lemmas.List.{length-map}
 
 -- a core that `Return` doesn't change is in that mode
 pub was_returning : (mode : Option Mode) → closes mode Return ≡ false → mode ≡ Some Return

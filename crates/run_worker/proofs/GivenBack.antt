@@ -1,21 +1,8 @@
 -- What a worker gives back has ended.
-use Rattle.std.proofs.Common.{◌≡◌, inl, inr, ℕ, ◌+◌, ◌≤◌, Option, [], length, refl, sym, ◌∙◌, ap, subst, arith}
-use Rattle.std.specs.Prelude.{Bool, true, false}
-use Rattle.base_words.specs.Closing.{IsDrained}
-use Rattle.base_words.specs.Journal.{Journal, EachNote}
-use Rattle.base_jobs.specs.Meanings.{Meaning}
-use Rattle.actor_core.specs.Recorded.{RecordedView}
-use Rattle.note_journal.specs.Journals.{places_of}
-use Rattle.run_config.specs.Configs.{least_room}
-use Rattle.link_ring.specs.Ends.{EndsView}
-use Rattle.run_worker.specs.Ended.{ActsUnlessRefused, HasEnded, IsServed, ServedView}
-use Rattle.actor_seat.specs.Linked.{IsBetweenTurns, IsLinked, LinkedView}
-use Rattle.actor_seat.specs.Opening.{IsOpenedOver}
-use Rattle.run_worker.specs.Passing.{HandsOn, PassesTo}
-use Rattle.run_worker.specs.Rooms.{ActsAsItMay, ActsByCommand, MayAct, least_free}
-use Rattle.run_worker.specs.Shown.{IsShownWhole, ShownView}
+use Rattle.run_worker.proofs.Names.{ActsAsItMay, ActsByCommand, ActsUnlessRefused, all_passed, ap, arith, Bool, EachNote, EndsView, false, HandsOn, has_passed, HasEnded, inl, inr, IsBetweenTurns, IsDrained, IsLinked, IsOpenedOver, IsServed}
+use Rattle.run_worker.proofs.Names.{IsShownWhole, Journal, least_free, least_room, length, LinkedView, MayAct, Meaning, PassesTo, places_of, RecordedView, refl, ServedView, ShownView, subst, sym, true, ℕ, [], ◌+◌, ◌∙◌, ◌≡◌, ◌≤◌}
+use Rattle.std.proofs.Common.{Option}
 use Rattle.run_worker.proofs.Acting.{command_acts}
-use Rattle.actor_seat.proofs.Passed.{all_passed, has_passed}
 use Rattle.run_worker.proofs.Published.{whole_runs}
 use Rattle.run_worker.proofs.Spare.{places_some}
 use Rattle.run_worker.proofs.Supplied.{hands_least, hands_notes, hands_places, hands_runs}

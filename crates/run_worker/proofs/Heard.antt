@@ -1,16 +1,6 @@
 -- One sender after another is heard, and the outcomes of one core after another are collected.
-use Rattle.std.proofs.Common.{◌≡◌, ◌≢◌, inl, inr, ℕ, ◌+◌, ◌<◌, ◌≤◌, length, refl, sym, ◌∙◌, ap, subst, arith, ⊎_elim}
-use Rattle.std.specs.Prelude.{Bool, true, false, Option, Some, None}
-use Rattle.std.proofs.lemmas.Bool.{cases_eq}
-use Rattle.base_words.specs.declared.order.Outcome.{Outcome}
-use Rattle.link_ends.specs.declared.ends.Inward.{Inward}
-use Rattle.actor_core.specs.Ends.{Gives}
-use Rattle.link_ring.specs.Ends.{in_at, out_at}
-use Rattle.actor_seat.specs.Linked.{LinkedView}
-use Rattle.run_worker.specs.Ended.{ServedView}
-use Rattle.run_worker.specs.Gates.{KeepsTaken}
-use Rattle.actor_seat.specs.Steps.{DeliversFrom, CollectsOf}
-use Rattle.run_worker.specs.Rounds.{IsAllTaken, IsAllGot, IsHeard, LooksAtRoom, StepsServed, HearsOne, HearsSome, HearsFirst, HearsAll, CollectsNext, CollectsFirst}
+use Rattle.run_worker.proofs.Names.{ap, arith, Bool, cases_eq, CollectsFirst, CollectsNext, CollectsOf, DeliversFrom, false, Gives, HearsAll, HearsFirst, HearsOne, HearsSome, in_at, inl, inr, Inward, IsAllGot, IsAllTaken, IsHeard}
+use Rattle.run_worker.proofs.Names.{KeepsTaken, length, LinkedView, LooksAtRoom, None, Option, out_at, Outcome, refl, ServedView, Some, StepsServed, subst, sym, true, ℕ, ⊎_elim, ◌+◌, ◌<◌, ◌∙◌, ◌≡◌, ◌≢◌, ◌≤◌}
 use Rattle.run_worker.proofs.Telling.{same_between, not_before}
 
 module _ {J T : Type 0} where

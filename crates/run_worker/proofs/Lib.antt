@@ -1,3 +1,4 @@
+mod Names
 pub mod Alone
 pub mod Published
 pub mod Openings

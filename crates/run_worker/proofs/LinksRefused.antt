@@ -1,12 +1,9 @@
 -- Steps of a small core that are refused: a note that is dropped, an end that sees less, another seat, another opening, work that wrote nothing.
-use Rattle.std.proofs.Common.{◌≡◌, true, false, ℕ, ◌+◌, ◌≤◌, [], ◌∷◌, ◌++◌, length, length-append, refl, ap, arith}
+use Rattle.run_worker.proofs.Names.{ap, arith, Grows, HearsOne, Journal, length, LinkedView, no_in, refl, StaysLinked, StepsServed, ℕ, [], ◌++◌, ◌+◌, ◌∷◌, ◌≡◌, ◌≤◌}
+use Rattle.std.proofs.Common.{true, false, length-append}
 use Rattle.base_words.specs.declared.note.Note.TheVariants.{Created}
 use Rattle.base_words.specs.declared.order.Mode.TheVariants.{Return}
 use Rattle.base_words.specs.declared.order.Order.TheVariants.{CloseCore}
-use Rattle.base_words.specs.Journal.{Journal}
-use Rattle.link_ring.specs.Ends.{no_in}
-use Rattle.actor_seat.specs.Linked.{Grows, LinkedView, StaysLinked}
-use Rattle.run_worker.specs.Rounds.{HearsOne, StepsServed}
 use Rattle.run_worker.proofs.SmallWorkers.{linked_of, one_note}
 
 -- a core with this journal

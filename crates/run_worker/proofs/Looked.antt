@@ -1,18 +1,6 @@
 -- Which watch and which gate serve a turn, and what a look at the room leaves.
-use Rattle.std.proofs.Common.{◌≡◌, ℕ, ◌++◌, [], ◌∷◌, ap, sym, subst, arith, refl}
-use Rattle.std.specs.Prelude.{Bool, Option, Some, None, IsSome}
-use Rattle.base_words.specs.declared.names.JobId.{JobId}
-use Rattle.base_words.specs.declared.note.Note.{Note}
-use Rattle.base_words.specs.Closing.{core_mode_told, count_told}
-use Rattle.base_words.specs.Journal.{Journal, latest_told, or_else}
-use Rattle.base_jobs.specs.Meanings.{Meaning}
-use Rattle.link_ring.specs.Ends.{in_at}
-use Rattle.run_worker.specs.Ended.{ServedView}
-use Rattle.run_worker.specs.Gates.{KeepsTaken}
-use Rattle.actor_seat.specs.Linked.{Grows, LinkedView, StaysLinked}
-use Rattle.run_worker.specs.Rounds.{HasShutGates, LooksAtRoom, ShutsClosed}
-use Rattle.run_worker.specs.Readings.{WatchView}
-use Rattle.run_worker.specs.Turns.{TurnsWith}
+use Rattle.run_worker.proofs.Names.{ap, arith, Bool, core_mode_told, count_told, Grows, HasShutGates, in_at, IsSome, JobId, Journal, KeepsTaken, latest_told, LinkedView, LooksAtRoom, Meaning, None, Note, Option, or_else, refl, ServedView}
+use Rattle.run_worker.proofs.Names.{ShutsClosed, Some, StaysLinked, subst, sym, TurnsWith, WatchView, ℕ, [], ◌++◌, ◌∷◌, ◌≡◌}
 
 module _ {J T C G : Type 0} (meaning : Meaning J T) (reads : C → ℕ → C → Type 0) (asked : G → ℕ → JobId → G → Type 0) where
   -- the same watch and the same gates

@@ -1,18 +1,9 @@
 -- Looks of a small worker that are refused: gates that stay open, orders that are left, turns that are made up, too many notes.
-use Rattle.std.proofs.Common.{◌≡◌, ◌||◌, Bool, true, false, inl, inr, ℕ, [], ◌∷◌, replicate, refl, ap, subst, arith}
-use Rattle.std.specs.Prelude.{Option, Some, None}
-use Rattle.base_words.specs.declared.names.JobId.{JobId}
+use Rattle.run_worker.proofs.Names.{ap, arith, BellsView, HasShutGates, inl, inr, IsHeard, JobId, Journal, kept_behind, leaves_turns, LooksAgain, LooksAtAll, Meaning, None, Option, refl, replicate, round_view, RoundsFew, RoundView}
+use Rattle.run_worker.proofs.Names.{ServedView, ShutsClosed, Some, subst, turns_after, watch_view, WatchView, ℕ, [], ◌||◌, ◌∷◌, ◌≡◌}
+use Rattle.std.proofs.Common.{Bool, true, false}
 use Rattle.base_words.specs.declared.note.Note.TheVariants.{CoreClosed, Created, Shut}
 use Rattle.base_words.specs.declared.order.Mode.TheVariants.{Return}
-use Rattle.base_words.specs.Journal.{Journal}
-use Rattle.base_jobs.specs.Meanings.{Meaning}
-use Rattle.actor_seat.specs.Bells.{BellsView}
-use Rattle.run_worker.specs.Again.{LooksAgain}
-use Rattle.run_worker.specs.Ended.{ServedView}
-use Rattle.run_worker.specs.Few.{RoundsFew}
-use Rattle.run_worker.specs.Looks.{LooksAtAll, RoundView, leaves_turns, round_view, turns_after}
-use Rattle.run_worker.specs.Readings.{WatchView, kept_behind, watch_view}
-use Rattle.run_worker.specs.Rounds.{HasShutGates, IsHeard, ShutsClosed}
 use Rattle.run_worker.proofs.LinksRefused.{hearing, noted}
 
 -- the core is closed, and the gate of core 0 is shut, but not that of the outside actor

@@ -1,25 +1,11 @@
 -- What the notes of a delivery tell: a core doesn't close by itself by them, and in a core that hands back each delivery has its outcome.
-use Rattle.std.proofs.Common.{◌≡◌, inl, ℕ, ◌+◌, true, false, cond, List, [], ◌∷◌, ◌++◌, length, refl, sym, subst, arith, inr}
-use Rattle.std.specs.Prelude.{◌==◌, Bool, Option, Some, None}
-use Rattle.std.proofs.lemmas.List.{length-append}
-use Rattle.base_words.specs.declared.names.JobId.{JobId}
-use Rattle.base_words.specs.declared.note.Note.{Note}
+use Rattle.run_worker.proofs.Names.{Answer, arith, Bool, cond, core_mode, EachNote, effect_note, entry_note, given_count, given_outcomes, if_from, inl, inr, IsDelivery, JobId, Journal, length, length-append, List, MayAct, nobody_enters}
+use Rattle.run_worker.proofs.Names.{None, Note, number_if, Option, Order, Reason, refl, refusal, Some, subst, sym, with_effect, with_last, ℕ, [], ◌++◌, ◌+◌, ◌==◌, ◌∷◌, ◌≡◌}
+use Rattle.std.proofs.Common.{true, false}
 use Rattle.base_words.specs.declared.note.Note.TheVariants as writes
-use Rattle.base_words.specs.declared.order.Order.{Order}
 use Rattle.base_words.specs.declared.order.Order.TheVariants.{Job, Create, SetShares, Close, CloseCore, Wake}
-use Rattle.base_words.specs.declared.order.Reason.{Reason}
 use Rattle.base_words.specs.declared.order.Mode.TheVariants.{Return}
-use Rattle.base_words.specs.declared.order.Answer.{Answer}
 use Rattle.base_words.specs.declared.order.Answer.TheVariants as answers
-use Rattle.base_words.specs.Journal.{Journal, EachNote, with_last}
-use Rattle.base_words.specs.Filters.{if_from, given_outcomes}
-use Rattle.base_words.specs.Work.{number_if}
-use Rattle.base_words.specs.Closing.{core_mode}
-use Rattle.base_words.specs.Commands.{refusal, effect_note}
-use Rattle.base_words.proofs.Returning.{nobody_enters}
-use Rattle.actor_core.specs.Deliveries.{IsDelivery, entry_note, with_effect}
-use Rattle.actor_core.specs.Recorded.{given_count}
-use Rattle.run_worker.specs.Rooms.{MayAct}
 
 -- one more where the name is of this sender
 pub more_from : {A : Type 0} (items : List A) (sender : ℕ) (name : JobId) (item : A) → length (with_last items (if_from sender name item)) ≡ length items + number_if (name.from == sender)

@@ -1,14 +1,7 @@
 -- A small worker that lies down without having published is refused.
-use Rattle.std.proofs.Common.{◌≡◌, ◌||◌, nat_lt, Bool, true, false, inl, inr, true≢false, ℕ, ◌<◌, ◌≤◌, ◌++◌, [], length, length-append, refl, sym, ◌∙◌, ap, arith}
-use Rattle.base_words.specs.declared.names.JobId.{JobId}
-use Rattle.base_words.specs.Journal.{Journal}
-use Rattle.base_jobs.specs.Meanings.{Meaning}
-use Rattle.run_worker.specs.Ended.{ServedView}
-use Rattle.actor_seat.specs.Linked.{Grows}
-use Rattle.run_worker.specs.Looks.{LooksAtAll, LooksOrRests, MakesRound, RoundView, TurnsAlone}
-use Rattle.run_worker.specs.Rounds.{StepsServed}
-use Rattle.run_worker.specs.Serves.{CountsIdle, GoesOn, Rests, ServesOnce, ShowsNow, round_of}
-use Rattle.run_worker.specs.Shown.{ShownView, Shows}
+use Rattle.run_worker.proofs.Names.{ap, arith, CountsIdle, GoesOn, Grows, inl, inr, JobId, Journal, length, LooksAtAll, LooksOrRests, MakesRound, Meaning, refl, Rests, round_of, RoundView, ServedView, ServesOnce, ShownView, Shows, ShowsNow}
+use Rattle.run_worker.proofs.Names.{StepsServed, sym, true≢false, TurnsAlone, ℕ, [], ◌++◌, ◌<◌, ◌||◌, ◌∙◌, ◌≡◌, ◌≤◌}
+use Rattle.std.proofs.Common.{nat_lt, Bool, true, false, length-append}
 use Rattle.run_worker.proofs.ServesRefused.{has, never, silent}
 use Rattle.run_worker.proofs.ShownAgain.{where_shown}
 use Rattle.run_worker.proofs.SmallWorkers.{SmallWorker, board_of, linked_of, one_note, small_worker}

@@ -1,18 +1,7 @@
 -- A worker of a core that was just opened: no turn is open, and the core never closed by itself.
-use Rattle.std.proofs.Common.{◌≡◌, ℕ, ◌+◌, ◌*◌, ◌≤◌, [], ◌∷◌, length, ap, arith}
+use Rattle.run_worker.proofs.Names.{ActsByCommand, ap, arith, CreatesSince, EachNote, EndsView, HasPlaces, IsBetweenTurns, IsOpenedOver, IsOpening, Journal, least_free, least_room, length, LinkedView, MayAct, Meaning, opened_beside}
+use Rattle.run_worker.proofs.Names.{RecordedView, Terms, ℕ, [], ◌*◌, ◌+◌, ◌∷◌, ◌≡◌, ◌≤◌}
 use Rattle.base_words.specs.declared.note.Note.TheVariants.{Created}
-use Rattle.base_words.specs.Terms.{Terms}
-use Rattle.base_words.specs.Commands.{IsOpening}
-use Rattle.base_words.specs.Journal.{Journal, EachNote}
-use Rattle.base_jobs.specs.Meanings.{Meaning}
-use Rattle.actor_core.specs.Recorded.{RecordedView}
-use Rattle.actor_core.specs.Steps.{opened_beside}
-use Rattle.link_ring.specs.Ends.{EndsView}
-use Rattle.run_config.specs.Configs.{least_room}
-use Rattle.actor_seat.specs.Linked.{IsBetweenTurns, LinkedView}
-use Rattle.actor_seat.specs.Opening.{CreatesSince, IsOpenedOver}
-use Rattle.run_worker.specs.Passing.{HasPlaces}
-use Rattle.run_worker.specs.Rooms.{MayAct, ActsByCommand, least_free}
 use Rattle.run_worker.proofs.Between.{opening_between}
 
 module _ {T : Type 0} where

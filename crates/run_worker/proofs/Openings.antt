@@ -1,12 +1,7 @@
 -- A journal that was just opened is its opening.
-use Rattle.std.proofs.Common.{◌≡◌, ℕ, ◌+◌, ◌==◌, Bool, true, false, if◌then◌else◌, List, [], ◌∷◌, refl}
+use Rattle.run_worker.proofs.Names.{behind_entries, behind_entry, created_count, creations, Entry, if◌then◌else◌, is_opening, Journal, List, opening_all, opening_of, refl, ℕ, [], ◌+◌, ◌∷◌, ◌≡◌}
+use Rattle.std.proofs.Common.{◌==◌, Bool, true, false}
 use Rattle.base_words.specs.declared.note.Note.TheVariants as writes
-use Rattle.base_words.specs.Journal.{Journal}
-use Rattle.base_words.specs.Commands.{created_count}
-use Rattle.run_config.specs.Configs.{Entry}
-use Rattle.run_worker.specs.Queues.{behind_entry, behind_entries, creations}
-use Rattle.actor_seat.specs.Queues.{is_opening, opening_of}
-use Rattle.actor_seat.proofs.Openings.{opening_all}
 
 module _ {T : Type 0} where
   creation_behind : (core : ℕ) (entry : Entry) (before : Journal T) → is_opening before ≡ true → is_opening (behind_entry core entry before) ≡ true

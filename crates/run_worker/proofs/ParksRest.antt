@@ -1,15 +1,10 @@
 -- Small journals of a core with one job that asked to be parked: whether a turn is to be made.
-use Rattle.std.proofs.Common.{◌≡◌, ◌==◌, ◌+◌, Bool, true, false, if◌then◌else◌, inl, inr, ℕ, [], ◌∷◌, length, refl, sym, ◌∙◌, arith}
-use Rattle.std.specs.Prelude.{nat_lt, Some, None}
+use Rattle.run_worker.proofs.Names.{arith, has_work, HasNoTurn, if◌then◌else◌, inl, inr, JobId, Journal, length, nat_lt, None, number_if, refl, Some, sym, turns, with_last, ℕ, [], ◌+◌, ◌∙◌, ◌∷◌, ◌≡◌}
+use Rattle.std.proofs.Common.{◌==◌, Bool, true, false}
 use Rattle.std.proofs.lemmas.Bool.{true≢false}
-use Rattle.base_words.specs.declared.names.JobId.{JobId}
 use Rattle.base_words.specs.declared.note.Note.TheVariants as notes
 use Rattle.base_words.specs.declared.order.Answer.TheVariants as answers
 use Rattle.base_words.specs.declared.order.Mode.TheVariants.{Finish, Return}
-use Rattle.base_words.specs.Journal.{Journal, with_last}
-use Rattle.base_words.specs.Picks.{turns}
-use Rattle.base_words.specs.Work.{has_work, number_if}
-use Rattle.actor_seat.specs.Steps.{HasNoTurn}
 
 -- a job from the outside actor to core 0, and the command that wakes it
 abbrev job : JobId

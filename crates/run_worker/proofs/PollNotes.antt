@@ -1,16 +1,8 @@
 -- What the notes of a poll tell: that the job is polled, that something was written, and that a core may write it.
-use Rattle.std.proofs.Common.{◌≡◌, ℕ, suc, ◌+◌, ◌∷◌, ◌++◌, length, refl, sym, ◌∙◌, ap, subst, arith}
-use Rattle.std.specs.Prelude.{Bool, true, false, Option, Some, None}
-use Rattle.std.proofs.lemmas.List.{length-append}
-use Rattle.base_words.specs.declared.names.JobId.{JobId}
-use Rattle.base_words.specs.Journal.{Journal, EachNote}
-use Rattle.actor_core.specs.Polls.{poll_note}
-use Rattle.run_worker.specs.Asks.{polls_of}
-use Rattle.run_worker.specs.Rooms.{MayAct}
-use Rattle.run_worker.specs.Rounds.{TellsNotes}
+use Rattle.run_worker.proofs.Names.{ap, arith, begun, Bool, EachNote, false, JobId, Journal, length, length-append, MayAct, None, Option, pick_behind, pick_noted, poll_note, polls_of, refl, Some, subst, suc, sym, TellsNotes, true}
+use Rattle.run_worker.proofs.Names.{WritesPoll, ℕ, ◌++◌, ◌+◌, ◌∙◌, ◌∷◌, ◌≡◌}
 use Rattle.run_worker.proofs.Acting.{begins_poll, posts_act, settles_act}
 use Rattle.run_worker.proofs.Asking.{posts_note_none, settles_note_none, poll_noted}
-use Rattle.actor_seat.proofs.PollNotes.{WritesPoll, begun, pick_behind, pick_noted}
 
 module _ {T : Type 0} (name : JobId) (old new : Journal T) (did : WritesPoll name old new) where
   abbrev here : Journal T

@@ -1,12 +1,6 @@
 -- A look of a small worker that notes a poll for which no gate was asked is refused.
-use Rattle.std.proofs.Common.{◌≡◌, Bool, ℕ, suc, List, [], ◌∷◌, ◌++◌, length, refl, ◌∙◌, sym, ap, arith}
-use Rattle.base_words.specs.declared.names.JobId.{JobId}
-use Rattle.base_words.specs.Journal.{Journal}
-use Rattle.base_jobs.specs.Meanings.{Meaning}
-use Rattle.run_worker.specs.Asks.{AsksFor, AsksSince, polls_of}
-use Rattle.actor_seat.specs.Bursts.{turn_view}
-use Rattle.run_worker.specs.Looks.{LooksAtAll, RoundView}
-use Rattle.run_worker.specs.Readings.{TimesNext}
+use Rattle.run_worker.proofs.Names.{ap, arith, AsksFor, AsksSince, JobId, Journal, length, List, LooksAtAll, Meaning, polls_of, refl, RoundView, suc, sym, TimesNext, turn_view, ℕ, [], ◌++◌, ◌∙◌, ◌∷◌, ◌≡◌}
+use Rattle.std.proofs.Common.{Bool}
 use Rattle.run_worker.proofs.Asking.{asks_between}
 use Rattle.run_worker.proofs.TurnAsks.{turn_asks}
 

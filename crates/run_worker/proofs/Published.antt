@@ -1,26 +1,11 @@
 -- What is told of a core may be published, and what was published stays a beginning of its journal.
-use Rattle.std.proofs.Common.{◌≡◌, ◌⊎◌, inl, inr, ℕ, ◌-◌, ◌^◌, ◌<◌, ◌≤◌, List, [], ◌++◌, length, sym, ◌∙◌, ap, subst, arith, get_or, ⊎_elim, Some}
-use Rattle.std.specs.Prelude.{◌↔◌, IsTrue}
-use Rattle.std.proofs.lemmas.Bool.{cases_lt}
-use Rattle.std.proofs.lemmas.List.{append-nil}
-use Rattle.std.proofs.lemmas.Option.{get_or_from_slice_get}
-use Rattle.base_words.specs.declared.stats.CoreStats.{CoreStats}
-use Rattle.base_words.specs.declared.stats.QueueStats.{QueueStats}
-use Rattle.base_words.specs.Closing.{IsDrained}
-use Rattle.base_words.specs.Journal.{Journal}
+use Rattle.run_worker.proofs.Names.{ap, append-nil, AreExact, arith, CantShow, cases_lt, CoreStats, EndsView, finished-within, get_or, get_or_from_slice_get, grows_along, inl, inr, IsDrained, IsOpenedOver, IsShown, IsShownWhole, IsTrue}
+use Rattle.run_worker.proofs.Names.{Journal, length, LinkedView, List, most_places, QueueStats, RecordedView, RunsOn, ShownView, Shows, stats_of, subst, sym, ℕ, [], ⊎_elim, ◌++◌, ◌-◌, ◌<◌, ◌^◌, ◌↔◌, ◌∙◌, ◌≡◌, ◌≤◌, ◌⊎◌}
+use Rattle.std.proofs.Common.{Some}
 use Rattle.base_words.specs.Terms.{Terms as SeatTerms}
-use Rattle.actor_core.specs.Recorded.{RecordedView}
 use Rattle.actor_core.specs.Stats as told
-use Rattle.actor_core.specs.Stats.{AreExact}
-use Rattle.actor_core.proofs.StatsTold.{finished-within}
-use Rattle.base_words.specs.Stats.{stats_of}
 use Rattle.run_watch.specs.Tells as board
 use Rattle.run_watch.specs.declared.board.Terms.{Terms}
-use Rattle.actor_seat.specs.Linked.{LinkedView, RunsOn}
-use Rattle.link_ring.specs.Ends.{EndsView}
-use Rattle.actor_seat.specs.Opening.{IsOpenedOver}
-use Rattle.run_worker.specs.Shown.{CantShow, IsShown, IsShownWhole, ShownView, Shows, most_places}
-use Rattle.actor_seat.proofs.Along.{grows_along}
 
 module _ {J : Type 0} (view : RecordedView J ℕ) (shown : ShownView ℕ) (is : IsShown view shown) where
   -- the numbers of the core, as a publisher asks for them

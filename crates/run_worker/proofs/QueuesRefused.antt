@@ -1,12 +1,7 @@
 -- Small journals that are none of a worker with these queues.
-use Rattle.std.proofs.Common.{◌≡◌, ℕ, List, [], ◌∷◌}
-use Rattle.base_words.specs.declared.names.JobId.{JobId}
+use Rattle.run_worker.proofs.Names.{creations, Entry, JobId, Journal, List, opening_of, ℕ, [], ◌∷◌, ◌≡◌}
 use Rattle.base_words.specs.declared.note.Note.TheVariants.{Created, Answered}
 use Rattle.base_words.specs.declared.order.Answer.TheVariants as answers
-use Rattle.base_words.specs.Journal.{Journal}
-use Rattle.run_config.specs.Configs.{Entry}
-use Rattle.run_worker.specs.Queues.{creations}
-use Rattle.actor_seat.specs.Queues.{opening_of}
 
 -- two queues of core 0, and one of core 1 between them
 abbrev some_queues : List Entry

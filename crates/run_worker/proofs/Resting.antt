@@ -1,18 +1,8 @@
 -- Rounds of a worker, one after another, as its states show them.
-use Rattle.std.proofs.Common.{◌≡◌, ℕ, Option, List, sym, ap, subst}
-use Rattle.std.specs.Prelude.{Bool, nat_lt, not, if◌then◌else◌}
-use Rattle.base_words.specs.Journal.{Journal}
-use Rattle.base_words.specs.declared.names.JobId.{JobId}
-use Rattle.base_jobs.specs.Meanings.{Meaning}
-use Rattle.run_worker.specs.Asks.{AsksSince, polls_of}
-use Rattle.actor_seat.specs.Bells.{BellView}
-use Rattle.actor_seat.specs.Linked.{LinkedView, RunsOn, StaysLinked}
-use Rattle.run_worker.specs.Looks.{LooksAtAll, MakesRound}
-use Rattle.run_worker.specs.Passing.{HandsOnWhere, IsDue, IsDueAtRest}
-use Rattle.run_worker.specs.Serves.{CountsIdle, GoesOn, Rests, round_of}
-use Rattle.run_worker.specs.Shown.{ShownView}
-use Rattle.run_worker.specs.Workers.{IsBellOf, WorkerView, served_of}
-use Rattle.actor_seat.proofs.Along.{runs_along, runs_stays}
+use Rattle.run_worker.proofs.Names.{ap, AsksSince, BellView, Bool, CountsIdle, GoesOn, HandsOnWhere, IsBellOf, IsDue, IsDueAtRest, JobId, Journal, LinkedView, List, LooksAtAll, MakesRound, Meaning, nat_lt, not, polls_of, Rests, round_of}
+use Rattle.run_worker.proofs.Names.{runs_along, runs_stays, RunsOn, served_of, ShownView, StaysLinked, subst, sym, WorkerView, ℕ, ◌≡◌}
+use Rattle.std.proofs.Common.{Option}
+use Rattle.std.specs.Prelude.{if◌then◌else◌}
 use Rattle.run_worker.proofs.Asking.{asks_none, asks_then}
 use Rattle.run_worker.proofs.Supplied.{where_gate, where_notes, where_runs}
 

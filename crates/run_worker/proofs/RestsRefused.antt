@@ -1,8 +1,5 @@
 -- Counts of idle rounds, and names of bells, that are refused.
-use Rattle.std.proofs.Common.{[], ◌∷◌, refl, arith}
-use Rattle.std.specs.Prelude.{true, false}
-use Rattle.actor_seat.specs.Bells.{AreApart}
-use Rattle.run_worker.specs.Serves.{CountsIdle}
+use Rattle.run_worker.proofs.Names.{AreApart, arith, CountsIdle, false, refl, true, [], ◌∷◌}
 
 -- a worker that tries two rounds more goes on behind the first idle round
 goes_on : CountsIdle 2 false 0 true 1

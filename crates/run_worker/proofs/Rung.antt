@@ -1,19 +1,8 @@
 -- A worker rings for the notes of its steps.
-use Rattle.std.proofs.Common.{◌≡◌, ℕ, ◌+◌, ◌≤◌, List, [], ◌∷◌, length, replicate, refl, sym, ◌∙◌, ap, subst, arith, drop}
-use Rattle.std.proofs.lemmas.List.{reverse-append}
-use Rattle.std.specs.Prelude.{Bool, true, reverse}
+use Rattle.run_worker.proofs.Names.{ap, AreRung, arith, BellsView, Bool, creations, drop, Entry, HasRung, is_opening, Journal, JournalView, length, List, no_shorter, refl, replicate, reverse, reverse-append, rung_along, rung_behind}
+use Rattle.run_worker.proofs.Names.{rung_for, ServedView, StepsServed, subst, sym, true, ℕ, [], ◌+◌, ◌∙◌, ◌∷◌, ◌≡◌, ◌≤◌}
 use Rattle.base_words.specs.declared.note.Note.TheVariants.{Created}
-use Rattle.base_words.specs.Journal.{Journal}
-use Rattle.actor_seat.specs.Bells.{BellsView, rung_for, HasRung}
-use Rattle.run_worker.specs.Rounds.{AreRung, StepsServed}
-use Rattle.note_journal.specs.Journals.{JournalView}
-use Rattle.run_worker.specs.Ended.{ServedView}
-use Rattle.run_worker.specs.Queues.{creations}
-use Rattle.actor_seat.specs.Queues.{is_opening}
-use Rattle.actor_seat.proofs.Growing.{no_shorter}
 use Rattle.run_worker.proofs.Openings.{creations_behind}
-use Rattle.run_config.specs.Configs.{Entry}
-use Rattle.actor_seat.proofs.Rung.{rung_along, rung_behind}
 
 -- a step of a worker, after the rings for its notes
 pub are_rung : {J T : Type 0} {some : Bool} (old new : ServedView J T) (before after : BellsView) → StepsServed old some new → AreRung old before →

@@ -1,15 +1,6 @@
 -- Rounds and rests of a small worker that are refused: notes that are kept or handed on too early, and a sink that isn't asked again.
-use Rattle.std.proofs.Common.{◌≡◌, Bool, inl, inr, ℕ, Option, Some, None, [], Result, Ok, Err, refl, sym, ◌∙◌, ap, arith}
-use Rattle.std.specs.Prelude.{unwrap_or}
-use Rattle.base_words.specs.declared.names.JobId.{JobId}
-use Rattle.base_words.specs.Journal.{Journal}
-use Rattle.base_jobs.specs.Meanings.{Meaning}
-use Rattle.note_journal.specs.Journals.{JournalView}
-use Rattle.note_journal.specs.Passing.{IsAsked, PassesOn}
-use Rattle.note_journal.specs.declared.sink.Refused.{Refused}
-use Rattle.run_worker.specs.Passing.{HandsOnWhere, IsDue}
-use Rattle.run_worker.specs.Serves.{GoesOn, Rests}
-use Rattle.run_worker.specs.Workers.{served_of}
+use Rattle.run_worker.proofs.Names.{ap, arith, Err, GoesOn, HandsOnWhere, inl, inr, IsAsked, IsDue, JobId, Journal, JournalView, Meaning, Ok, PassesOn, refl, Refused, Rests, Result, served_of, sym, unwrap_or, ℕ, [], ◌∙◌, ◌≡◌}
+use Rattle.std.proofs.Common.{Bool, Option, Some, None}
 use Rattle.run_worker.proofs.SmallWorkers.{SmallWorker, linked_of, one_note, small_worker}
 
 -- the sink has what it was handed, and never refuses

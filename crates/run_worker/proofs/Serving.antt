@@ -1,35 +1,14 @@
 -- Each step of a worker leaves it room for the next.
-use Rattle.std.proofs.Common.{◌≡◌, inr, ℕ, suc, ◌+◌, ◌*◌, ◌-◌, ◌≤◌, ◌∷◌, ◌++◌, length, sym, ◌∙◌, ap, subst, arith}
-use Rattle.std.specs.Prelude.{◌==◌, Bool, true, false, Some, unwrap_or, IsSome}
-use Rattle.std.proofs.lemmas.List.{length-append}
-use Rattle.base_words.specs.declared.names.JobId.{JobId}
+use Rattle.run_worker.proofs.Names.{ActsAsItMay, ap, arith, Bool, CollectsOf, core_mode, Delivers, DeliversFrom, delivery_short, EachNote, false, final_count, given_count, given_outcomes, HandsBack, has_reason, HasSpare, in_at, inr}
+use Rattle.run_worker.proofs.Names.{IsBetweenTurns, IsEnding, IsLinked, IsProvided, IsReady, IsSameSeat, IsServed, IsSome, JobId, last_through, length, length-append, LinkedView, MakesTurn, MayAct, MayStand, Meaning, most_of_turn}
+use Rattle.run_worker.proofs.Names.{number_if, Receives, RecordedView, ShutsFirst, Some, subst, suc, sum_upto, sum_upto-one_more, sum_upto-same, sym, terms_at, true, turn_view, Turned, unwrap_or, ℕ, ◌*◌, ◌++◌, ◌+◌, ◌-◌, ◌==◌, ◌∙◌, ◌∷◌, ◌≡◌}
+use Rattle.run_worker.proofs.Names.{◌≤◌}
 use Rattle.base_words.specs.declared.note.Note.TheVariants as writes
 use Rattle.base_words.specs.declared.order.Mode.TheVariants.{Return}
-use Rattle.base_words.specs.Filters.{given_outcomes}
-use Rattle.base_words.specs.Work.{number_if}
-use Rattle.base_words.specs.Journal.{EachNote}
-use Rattle.base_words.specs.Closing.{core_mode, final_count}
-use Rattle.base_words.specs.Lawful.{MayStand}
-use Rattle.base_words.proofs.Returning.{has_reason}
-use Rattle.base_jobs.specs.Meanings.{Meaning}
-use Rattle.actor_core.specs.Recorded.{RecordedView, terms_at, sum_upto, given_count}
-use Rattle.actor_core.specs.Ends.{IsSameSeat}
-use Rattle.actor_core.specs.Steps.{Delivers, Receives}
-use Rattle.actor_core.proofs.Sums.{sum_upto-same, sum_upto-one_more}
-use Rattle.link_ring.specs.Ends.{in_at}
-use Rattle.actor_seat.specs.Bursts.{MakesTurn, turn_view}
-use Rattle.actor_seat.specs.Linked.{LinkedView, IsBetweenTurns, IsLinked}
-use Rattle.actor_seat.specs.Steps.{DeliversFrom, CollectsOf, HandsBack}
-use Rattle.run_worker.specs.Gates.{ShutsFirst}
-use Rattle.run_worker.specs.Ended.{IsServed}
-use Rattle.run_worker.specs.Few.{most_of_turn}
-use Rattle.run_worker.specs.Rooms.{last_through, MayAct, ActsAsItMay, HasSpare, IsEnding, IsProvided, IsReady}
-use Rattle.actor_core.specs.declared.whole.Turned.{Turned}
 use Rattle.actor_core.specs.declared.whole.Turned.TheVariants as came
 use Rattle.run_worker.proofs.Acting.{acts_here, collects_act}
 use Rattle.run_worker.proofs.Between.{between_same}
 use Rattle.run_worker.proofs.Noted.{more_from, delivery_acts, delivery_gives}
-use Rattle.actor_seat.proofs.Fewer.{delivery_short}
 use Rattle.run_worker.proofs.Spare.{ends_once, stays_returning, places_some, places_more, places_few, posts_few}
 use Rattle.run_worker.proofs.TurnNotes.{turn_acts}
 use Rattle.run_worker.proofs.TurnRoom.{turn_counts}

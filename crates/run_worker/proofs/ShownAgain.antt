@@ -1,15 +1,7 @@
 -- What a publication leaves as it was, and that a worker keeps its board.
-use Rattle.std.proofs.Common.{◌≡◌, inl, inr, ℕ, Option, sym, ◌∙◌, ap, subst}
-use Rattle.std.specs.Prelude.{Bool}
-use Rattle.base_words.specs.Journal.{Journal}
-use Rattle.base_words.specs.declared.names.JobId.{JobId}
-use Rattle.base_jobs.specs.Meanings.{Meaning}
-use Rattle.run_worker.specs.Asks.{AsksSince}
-use Rattle.actor_seat.specs.Linked.{LinkedView, RunsOn}
-use Rattle.run_worker.specs.Passing.{HandsOnWhere}
-use Rattle.run_worker.specs.Serves.{GoesOn, Rests, Serves, ServesOnce, ShowsAgain, ShowsEnd, ShowsNow}
-use Rattle.run_worker.specs.Shown.{ShownView, Shows}
-use Rattle.run_worker.specs.Workers.{WorkerView}
+use Rattle.run_worker.proofs.Names.{ap, AsksSince, Bool, GoesOn, HandsOnWhere, inl, inr, JobId, Journal, LinkedView, Meaning, Rests, RunsOn, Serves, ServesOnce, ShownView, Shows, ShowsAgain, ShowsEnd, ShowsNow, subst, sym, WorkerView, ℕ}
+use Rattle.run_worker.proofs.Names.{◌∙◌, ◌≡◌}
+use Rattle.std.proofs.Common.{Option}
 
 -- it is the same board
 pub shows_board : {T : Type 0} (notes : Journal T) (old new : ShownView T) → Shows notes old new → new.board ≡ old.board

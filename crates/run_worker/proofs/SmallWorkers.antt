@@ -1,13 +1,7 @@
 -- Small workers of one core, for the cases that are refused.
-use Rattle.std.proofs.Common.{false, ℕ, [], ◌∷◌}
-use Rattle.std.specs.Prelude.{None}
+use Rattle.run_worker.proofs.Names.{Journal, LinkedView, no_ends, None, opened_beside, ShownView, WorkerView, ℕ, [], ◌∷◌}
+use Rattle.std.proofs.Common.{false}
 use Rattle.base_words.specs.declared.note.Note.TheVariants.{Created}
-use Rattle.base_words.specs.Journal.{Journal}
-use Rattle.actor_core.specs.Steps.{opened_beside}
-use Rattle.link_ring.specs.Grid.{no_ends}
-use Rattle.actor_seat.specs.Linked.{LinkedView}
-use Rattle.run_worker.specs.Shown.{ShownView}
-use Rattle.run_worker.specs.Workers.{WorkerView}
 
 -- its jobs, answers, clock and gate are numbers, and its sink is the journal that it has
 abbrev pub SmallWorker : Type 0

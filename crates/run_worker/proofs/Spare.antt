@@ -1,24 +1,8 @@
 -- Sums over senders, and the room that a worker keeps.
-use Rattle.std.proofs.Common.{◌≡◌, ℕ, zero, suc, ◌+◌, ◌*◌, ◌≤◌, [], ◌∷◌, ◌++◌, length, ◌∙◌, ap, subst, arith}
-use Rattle.std.proofs.Math.Nat.{add-mul, mul-add, suc-mul, mul_left_comm}
-use Rattle.std.specs.Prelude.{Some, unwrap_or, IsSome, Bool, true, false}
-use Rattle.base_words.specs.Terms.{Terms}
+use Rattle.run_worker.proofs.Names.{add-mul, ap, arith, Bool, core_mode, core_stays_returning, delivered_count, EachNote, false, final_count, final_of, given_count, has_bursts, HasTurnRoom, in_at, Inward, IsEnding, IsInOf, IsLinked}
+use Rattle.run_worker.proofs.Names.{IsReady, IsSameSeat, IsSome, Journal, last_through, least_free, length, LinkedView, MayStand, Meaning, mul-add, mul_left_comm, number_if, RecordedView, Some, subst, suc, suc-mul, sum_upto, Terms, true}
+use Rattle.run_worker.proofs.Names.{unwrap_or, zero, ℕ, [], ◌*◌, ◌++◌, ◌+◌, ◌∙◌, ◌∷◌, ◌≡◌, ◌≤◌}
 use Rattle.base_words.specs.declared.order.Mode.TheVariants.{Return}
-use Rattle.base_words.specs.Journal.{Journal, EachNote}
-use Rattle.base_words.specs.Bursts.{has_bursts}
-use Rattle.base_words.specs.Closing.{core_mode, final_count}
-use Rattle.base_words.specs.Lawful.{MayStand}
-use Rattle.base_words.specs.Work.{number_if}
-use Rattle.base_words.proofs.Returning.{core_stays_returning}
-use Rattle.link_ends.specs.declared.ends.Inward.{Inward}
-use Rattle.link_ends.specs.Calls.{final_of}
-use Rattle.base_jobs.specs.Meanings.{Meaning}
-use Rattle.actor_core.specs.Recorded.{RecordedView, sum_upto, given_count, delivered_count}
-use Rattle.actor_core.specs.Ends.{IsInOf, IsSameSeat}
-use Rattle.link_ring.specs.Ends.{in_at}
-use Rattle.actor_seat.specs.Linked.{LinkedView, IsLinked}
-use Rattle.actor_core.specs.Rooms.{HasTurnRoom}
-use Rattle.run_worker.specs.Rooms.{last_through, least_free, IsEnding, IsReady}
 
 -- each of them at most so much above the other, and so are the sums
 pub sums_within : (f g : ℕ → ℕ) (more last : ℕ) → ((s : ℕ) → s ≤ last → f s ≤ g s + more) → sum_upto f last ≤ sum_upto g last + (last + 1) * more

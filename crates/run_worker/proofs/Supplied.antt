@@ -1,25 +1,10 @@
 -- A worker that passes on its notes before a round comes to its end in it only if its sink refused.
-use Rattle.std.proofs.Common.{◌≡◌, ◌⊎◌, inl, inr, ℕ, ◌+◌, ◌*◌, ◌<◌, ◌≤◌, Option, [], length, refl, sym, ◌∙◌, ap, subst, arith, ⊎_elim}
-use Rattle.std.specs.Prelude.{Bool, true, false}
-use Rattle.std.proofs.lemmas.Bool.{cases_lt, false≢true}
-use Rattle.base_words.specs.Journal.{Journal}
-use Rattle.base_jobs.specs.Meanings.{Meaning}
-use Rattle.note_journal.specs.Journals.{free_notes, places_of}
-use Rattle.actor_core.specs.Recorded.{terms_at}
-use Rattle.link_ring.specs.Ends.{SameEnds}
-use Rattle.link_ring.proofs.Using.{ends_same}
-use Rattle.run_worker.specs.Ended.{IsServed, ServedView}
-use Rattle.run_worker.specs.Few.{RoundsFew}
-use Rattle.actor_seat.specs.Linked.{IsBetweenTurns, IsLinked, LinkedView, RunsOn, SeesNoLess, StaysLinked}
-use Rattle.run_worker.specs.Passing.{HandsOn, HandsOnWhere, HasPlaces, IsDue, IsDueAtRest, IsSupplied, PassesTo}
-use Rattle.actor_seat.specs.Queues.{opening_of}
-use Rattle.run_worker.specs.Rooms.{ActsAsItMay, ActsByCommand, HasSpare, IsProvided, least_free}
-use Rattle.run_worker.specs.Shown.{IsShown, ShownView}
-use Rattle.run_worker.specs.Workers.{WorkerView}
+use Rattle.run_worker.proofs.Names.{ActsAsItMay, ActsByCommand, ap, arith, Bool, cases_lt, ends_same, false, false≢true, free_behind, free_notes, HandsOn, HandsOnWhere, has_passed, HasPlaces, HasSpare, inl, inr, IsBetweenTurns, IsDue}
+use Rattle.run_worker.proofs.Names.{IsDueAtRest, IsLinked, IsProvided, IsServed, IsShown, IsSupplied, Journal, least_free, length, LinkedView, Meaning, opening_of, PassesTo, places_of, refl, RoundsFew, runs_same, RunsOn, same_notes}
+use Rattle.run_worker.proofs.Names.{same_places, SameEnds, sees_same, SeesNoLess, ServedView, ShownView, StaysLinked, still_free, subst, sym, terms_at, true, WorkerView, ℕ, [], ⊎_elim, ◌*◌, ◌+◌, ◌<◌, ◌∙◌, ◌≡◌, ◌≤◌, ◌⊎◌}
+use Rattle.std.proofs.Common.{Option}
 use Rattle.run_worker.proofs.Spare.{least_along}
-use Rattle.actor_seat.proofs.Along.{runs_same, sees_same}
 use Rattle.run_worker.proofs.Published.{shown_runs}
-use Rattle.actor_seat.proofs.Passed.{free_behind, has_passed, same_notes, same_places, still_free}
 
 module _ {J T S : Type 0} (has : S → Journal T) (refused : S → ℕ → Type 0) where
   module _ {asks : S → Option ℕ} (old new : LinkedView J T) (before after : S) (did : HandsOn has refused asks old before new after) where

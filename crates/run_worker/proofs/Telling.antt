@@ -1,24 +1,9 @@
 -- What the steps of a round tell of their notes, one after another.
-use Rattle.std.proofs.Common.{◌≡◌, ℕ, zero, suc, ◌+◌, ◌*◌, ◌<◌, List, [], ◌∷◌, ◌++◌, length, refl, sym, ◌∙◌, ap, subst, arith}
-use Rattle.std.specs.Prelude.{◌||◌, Bool, true, false, Option, Some, None, nat_lt}
-use Rattle.std.proofs.lemmas.Bool.{lt-ltb}
-use Rattle.std.proofs.lemmas.List.{length-append}
-use Rattle.base_words.specs.declared.names.JobId.{JobId}
-use Rattle.base_words.specs.declared.note.Note.{Note}
+use Rattle.run_worker.proofs.Names.{Answer, ap, arith, Bool, CollectsOf, DeliversFrom, effect_note, false, Grows, IsDelivery, IsShort, JobId, Journal, length, length-append, LinkedView, List, LooksAtRoom, lt-ltb, nat_lt, no_shorter, None}
+use Rattle.run_worker.proofs.Names.{Note, Option, Order, refl, ServedView, Some, stays_along, stays_same, StaysLinked, StepsServed, subst, suc, sym, TellsNotes, true, with_effect, zero, ℕ, [], ◌*◌, ◌++◌, ◌+◌, ◌<◌, ◌∙◌, ◌∷◌, ◌≡◌}
+use Rattle.std.specs.Prelude.{◌||◌}
 use Rattle.base_words.specs.declared.note.Note.TheVariants as writes
-use Rattle.base_words.specs.declared.order.Answer.{Answer}
-use Rattle.base_words.specs.declared.order.Order.{Order}
 use Rattle.base_words.specs.declared.order.Order.TheVariants.{Job, Create, SetShares, Close, CloseCore, Wake}
-use Rattle.base_words.specs.Commands.{effect_note}
-use Rattle.base_words.specs.Journal.{Journal}
-use Rattle.actor_core.specs.Deliveries.{IsDelivery, with_effect}
-use Rattle.actor_seat.specs.Linked.{LinkedView, Grows, StaysLinked}
-use Rattle.run_worker.specs.Ended.{ServedView}
-use Rattle.actor_seat.specs.Steps.{DeliversFrom, CollectsOf}
-use Rattle.run_worker.specs.Rooms.{IsShort}
-use Rattle.run_worker.specs.Rounds.{TellsNotes, LooksAtRoom, StepsServed}
-use Rattle.actor_seat.proofs.Along.{stays_along, stays_same}
-use Rattle.actor_seat.proofs.Growing.{no_shorter}
 
 effects_some : (T : Type 0) (name : JobId) (order : Order (Unit {0})) (answer : Answer) → 0 < length (with_effect {T = T} (effect_note name.to order answer) (writes.Answered name answer ∷ []))
 effects_some T name order answer = by_effect (effect_note name.to order answer)

@@ -1,15 +1,8 @@
 -- A turn asks the gate for each poll that it notes, in their order.
-use Rattle.std.proofs.Common.{◌≡◌, ℕ, List, [], ◌∷◌, ◌++◌, refl, sym, ◌∙◌, ap, subst}
-use Rattle.std.specs.Prelude.{Bool, true, false}
-use Rattle.base_words.specs.declared.names.JobId.{JobId}
-use Rattle.base_jobs.specs.Meanings.{Meaning}
-use Rattle.run_worker.specs.Asks.{AsksFor, AsksSince, polls_of}
-use Rattle.actor_seat.specs.Bursts.{GoesThrough, MakesTurn, PollsOn, TurnView}
-use Rattle.actor_core.specs.declared.whole.Turned.{Turned}
+use Rattle.run_worker.proofs.Names.{ap, AsksFor, AsksSince, Bool, false, GoesThrough, JobId, List, MakesTurn, Meaning, polls_of, PollsOn, refl, subst, sym, true, Turned, TurnView, writes_first, writes_further, ℕ, [], ◌++◌, ◌∙◌, ◌∷◌, ◌≡◌}
 use Rattle.actor_core.specs.declared.whole.Turned.TheVariants as came
 use Rattle.run_worker.proofs.Asking.{asks_along, asks_none}
 use Rattle.run_worker.proofs.PollNotes.{poll_told}
-use Rattle.actor_seat.proofs.PollNotes.{writes_first, writes_further}
 use Rattle.run_worker.proofs.TurnNotes.{ended_notes, notes_at}
 
 module _ {J T M G : Type 0} (meaning : Meaning J T) (tells : M → ℕ → M → Type 0) (asked : G → ℕ → JobId → G → Type 0) where

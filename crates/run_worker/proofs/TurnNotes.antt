@@ -1,20 +1,8 @@
 -- What the notes of a whole turn tell: what each poll keeps, and the end, the turn keeps.
-use Rattle.std.proofs.Common.{◌≡◌, ℕ, suc, ◌<◌, List, [], ◌∷◌, length, refl, sym, subst, ap, arith}
-use Rattle.std.specs.Prelude.{Bool, true, false}
-use Rattle.base_words.specs.declared.names.JobId.{JobId}
+use Rattle.run_worker.proofs.Names.{ap, arith, Bool, EachNote, EndsOpenTurn, false, GoesThrough, Grows, grows_along, grows_same, HandsBack, is_turn, JobId, Journal, length, List, MakesTurn, MayAct, Meaning, no_shorter, poll_grows, PollsOn}
+use Rattle.run_worker.proofs.Names.{refl, subst, suc, sym, TellsNotes, true, Turned, TurnView, writes_first, writes_further, WritesPoll, ℕ, [], ◌<◌, ◌∷◌, ◌≡◌}
 use Rattle.base_words.specs.declared.note.Note.TheVariants as writes
-use Rattle.base_words.specs.Journal.{Journal, EachNote}
-use Rattle.base_jobs.specs.Meanings.{Meaning}
-use Rattle.actor_seat.specs.Bursts.{EndsOpenTurn, GoesThrough, MakesTurn, PollsOn, TurnView}
-use Rattle.actor_seat.specs.Linked.{Grows}
-use Rattle.run_worker.specs.Rooms.{MayAct}
-use Rattle.run_worker.specs.Rounds.{TellsNotes, is_turn}
-use Rattle.actor_seat.specs.Steps.{HandsBack}
-use Rattle.actor_core.specs.declared.whole.Turned.{Turned}
 use Rattle.actor_core.specs.declared.whole.Turned.TheVariants as came
-use Rattle.actor_seat.proofs.Along.{grows_along, grows_same}
-use Rattle.actor_seat.proofs.Growing.{no_shorter}
-use Rattle.actor_seat.proofs.PollNotes.{WritesPoll, poll_grows, writes_first, writes_further}
 use Rattle.run_worker.proofs.PollNotes.{poll_acts, poll_tells}
 
 -- the notes that stand behind a turn or in it

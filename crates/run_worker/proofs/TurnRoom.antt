@@ -1,18 +1,7 @@
 -- How many notes a turn takes.
-use Rattle.std.proofs.Common.{◌≡◌, ℕ, suc, ◌+◌, ◌*◌, ◌-◌, ◌≤◌, List, [], ◌∷◌, length, sym, ap, subst, arith}
-use Rattle.std.specs.Prelude.{Bool, true, false, sum_by}
-use Rattle.base_words.specs.declared.names.JobId.{JobId}
-use Rattle.base_words.specs.Bursts.{polls_in_turn}
-use Rattle.base_words.specs.Work.{number_if}
-use Rattle.base_jobs.specs.Meanings.{Meaning}
-use Rattle.actor_core.specs.Ends.{IsSameSeat}
-use Rattle.actor_core.specs.Recorded.{RecordedView}
-use Rattle.actor_desk.specs.Spending.{left_of}
-use Rattle.actor_seat.specs.Bursts.{GoesThrough, MakesTurn, PollsOn, TurnView}
-use Rattle.run_worker.specs.Few.{most_of_turn}
-use Rattle.actor_core.specs.declared.whole.Turned.{Turned}
+use Rattle.run_worker.proofs.Names.{ap, arith, Bool, false, GoesThrough, IsSameSeat, JobId, left_of, length, List, MakesTurn, Meaning, most_of_turn, number_if, polls_in_turn, PollsOn, RecordedView, seat_along, seat_same, subst, suc, sum_by}
+use Rattle.run_worker.proofs.Names.{sym, true, Turned, TurnView, ℕ, [], ◌*◌, ◌+◌, ◌-◌, ◌∷◌, ◌≡◌, ◌≤◌}
 use Rattle.actor_core.specs.declared.whole.Turned.TheVariants as came
-use Rattle.actor_seat.proofs.Along.{seat_along, seat_same}
 use Rattle.run_worker.proofs.TurnNotes.{ended_notes, notes_at}
 
 module _ {J T M G : Type 0} (meaning : Meaning J T) (tells : M → ℕ → M → Type 0) (asked : G → ℕ → JobId → G → Type 0) where

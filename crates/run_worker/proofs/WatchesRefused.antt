@@ -1,8 +1,6 @@
 -- Turns that are left out, and watches behind a poll, that are refused.
-use Rattle.std.proofs.Common.{◌≡◌, ℕ, ◌+◌, ◌<◌, ◌≤◌, inl, inr, refl, ap, arith}
-use Rattle.std.specs.Prelude.{◌⊎◌, false, Some, None}
-use Rattle.run_worker.specs.Looks.{PassesLinks}
-use Rattle.run_worker.specs.Readings.{BeginsNext, TimesNext, WatchView, watch_view}
+use Rattle.run_worker.proofs.Names.{ap, arith, BeginsNext, false, inl, inr, None, PassesLinks, refl, Some, TimesNext, watch_view, WatchView, ℕ, ◌+◌, ◌<◌, ◌≡◌, ◌≤◌}
+use Rattle.std.specs.Prelude.{◌⊎◌}
 
 is_early : (turns taken : ℕ) → 0 < turns → taken < 2000 → (turns ≡ 0) ⊎ (2000 ≤ taken) → ⊥
 is_early turns taken some short (inl none) = omega (arith, some, none)

@@ -1,4 +1,4 @@
-use Rattle.std.proofs.Common.{ℕ}
+use Rattle.actor_seat.proofs.Names.{ℕ}
 use Rattle.actor_seat.proofs.BellsRefused.{notes_for}
 use Rattle.actor_seat.proofs.laws.notes_are_for_links.Goals as goal
 

@@ -1,4 +1,4 @@
-use Rattle.std.specs.Prelude.{Some}
+use Rattle.actor_seat.proofs.Names.{Some}
 use Rattle.base_words.specs.declared.order.Outcome.TheVariants.{Returned}
 use Rattle.actor_seat.proofs.Seen.{gives_seen}
 use Rattle.actor_seat.proofs.Stepping.{owing_end, given_beside, given_ends, given_sees}

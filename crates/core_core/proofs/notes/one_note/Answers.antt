@@ -1,4 +1,4 @@
-use Rattle.std.proofs.Common.{[], ◌∷◌, ◌++◌, length, ◌∙◌, ap, arith}
+use Rattle.core_core.proofs.Names.{ap, arith, length, [], ◌++◌, ◌∙◌, ◌∷◌}
 use Rattle.core_core.proofs.notes.one_note.Goals as goal
 
 pub new-notes-requires : goal.new-notes-requires

@@ -1,4 +1,4 @@
-use Rattle.std.proofs.Common.{arith}
+use Rattle.core_core.proofs.Names.{arith}
 use Rattle.core_core.proofs.notes.with_effect.Goals as goal
 
 pub insert-requires : goal.insert-requires

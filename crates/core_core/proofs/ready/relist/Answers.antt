@@ -1,10 +1,6 @@
-use Rattle.std.proofs.Common.{◌≡◌, Bool, true, List, [], ap, sym, ◌∙◌}
-use Rattle.core_queues.specs.Queues.{waiting_of}
-use Rattle.core_queues.specs.Slips.{queues_alone}
-use Rattle.core_core.specs.Relisted.{relisted}
+use Rattle.core_core.proofs.Names.{ap, Bool, List, queues_alone, relisted, sym, true, true≢false, waiting_of, [], ◌∙◌, ◌≡◌}
 use Rattle.core_core.proofs.Entries.{is_any-from_some}
 use Rattle.core_core.proofs.SlipsKept.{slip_stays}
-use Rattle.std.proofs.lemmas.Bool.{true≢false}
 use Rattle.core_core.proofs.ready.relist.Goals as goal
 
 pub returns-else-is_empty-clause-slips : goal.returns-else-is_empty-clause-slips

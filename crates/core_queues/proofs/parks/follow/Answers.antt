@@ -1,4 +1,4 @@
-use Rattle.std.proofs.Common.{◌≡◌, ◌<◌, ℕ, inl, inr, refl, arith}
+use Rattle.core_queues.proofs.Names.{arith, inl, inr, refl, ℕ, ◌<◌, ◌≡◌}
 use Rattle.core_queues.proofs.parks.follow.Goals as goal
 
 some-count : (n : ℕ) → (n ≡ 0 → ⊥) → 0 < n

@@ -1,6 +1,4 @@
-use Rattle.std.proofs.Common.{false, ◌<◌, subst, refl}
-use Rattle.slab.specs.Slab.{ContainsKey}
-use Rattle.core_queues.specs.Lines.{Skips}
+use Rattle.core_queues.proofs.Names.{ContainsKey, false, refl, Skips, subst, ◌<◌}
 use Rattle.core_queues.proofs.Marked.{still_filled, skipped_filled}
 use Rattle.core_queues.proofs.parks.move_out.Goals as goal
 

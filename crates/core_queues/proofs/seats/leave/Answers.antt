@@ -1,5 +1,4 @@
-use Rattle.std.proofs.Common.{false, length-set, arith}
-use Rattle.core_queues.specs.declared.seats.Seat.{Seat}
+use Rattle.core_queues.proofs.Names.{arith, false, length-set, Seat}
 use Rattle.core_queues.proofs.SeatWrites.{LeavesSeat-last, LeavesSeat-told}
 use Rattle.core_queues.proofs.seats.leave.Goals as goal
 

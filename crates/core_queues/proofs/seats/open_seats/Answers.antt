@@ -1,6 +1,4 @@
-use Rattle.std.proofs.Common.{◌∙◌}
-use Rattle.core_queues.specs.Seats.{no_seat}
-use Rattle.core_index.proofs.Filed.{resized}
+use Rattle.core_queues.proofs.Names.{no_seat, resized, ◌∙◌}
 use Rattle.core_queues.proofs.seats.open_seats.Goals as goal
 
 pub returns : goal.returns

@@ -1,5 +1,4 @@
-use Rattle.std.proofs.Common.{ap, ◌∙◌}
-use Rattle.core_queues.specs.declared.seats.Seat.{Seat}
+use Rattle.core_queues.proofs.Names.{ap, Seat, ◌∙◌}
 use Rattle.core_queues.proofs.SeatWrites.{seat_read}
 use Rattle.core_queues.proofs.seats.read_seat.Goals as goal
 

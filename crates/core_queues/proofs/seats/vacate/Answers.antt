@@ -1,8 +1,4 @@
-use Rattle.std.proofs.Common.{◌≡◌, suc, ◌+◌, ◌<◌, length, refl, sym, ap, ◌∙◌, subst, arith}
-use Rattle.slab.specs.Slab.{get, ContainsKey}
-use Rattle.core_queues.specs.declared.waiting.Waiting.{Waiting}
-use Rattle.core_queues.specs.Linked.{next_of, key_at}
-use Rattle.core_queues.specs.Seats.{Vacates}
+use Rattle.core_queues.proofs.Names.{ap, arith, ContainsKey, get, key_at, length, next_of, refl, subst, suc, sym, Vacates, Waiting, ◌+◌, ◌<◌, ◌∙◌, ◌≡◌}
 use Rattle.core_queues.proofs.SeatWrites.{Vacates-none, Vacates-more}
 use Rattle.core_queues.proofs.seats.vacate.Goals as goal
 

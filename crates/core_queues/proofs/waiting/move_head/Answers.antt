@@ -1,4 +1,4 @@
-use Rattle.std.proofs.Common.{◌≡◌, ◌<◌, ℕ, false, inl, inr, refl, arith}
+use Rattle.core_queues.proofs.Names.{arith, false, inl, inr, refl, ℕ, ◌<◌, ◌≡◌}
 use Rattle.core_queues.proofs.Marked.{still_filled}
 use Rattle.core_queues.proofs.waiting.move_head.Goals as goal
 

@@ -1,8 +1,4 @@
-use Rattle.std.proofs.Common.{ℕ, Option, None, Some, true, cond, refl, ap, arith}
-use Rattle.std.specs.Prelude.{is_some}
-use Rattle.std.proofs.lemmas.List.Sums.{sum_by-set}
-use Rattle.slab.proofs.SlabLemmas.{Updates-with_value, ContainsKey-within}
-use Rattle.core_queues.specs.declared.waiting.Waiting.{Waiting}
+use Rattle.core_queues.proofs.Names.{ap, arith, cond, ContainsKey-within, is_some, None, Option, refl, Some, sum_by-set, true, Updates-with_value, Waiting, ℕ}
 use Rattle.core_queues.proofs.waiting.start.Goals as goal
 
 pub returns : goal.returns

@@ -1,11 +1,4 @@
-use Rattle.std.proofs.Common.{ℕ, ◌+◌, sym, ap, ◌∙◌, subst, arith}
-use Rattle.std.proofs.lemmas.Bool.{both_ways}
-use Rattle.base_words.specs.Assembly.{journal_of}
-use Rattle.base_words.specs.Clauses.{RespectsCloses}
-use Rattle.base_words.specs.Journal.{Journal, EachNote, at_place}
-use Rattle.note_facts.specs.Faults.{IsFirstFault}
-use Rattle.note_facts.proofs.Walks.{at_start, whole_walk}
-use Rattle.judge_audit.specs.Closes.{ClosesSoFar}
+use Rattle.judge_audit.proofs.Names.{ap, arith, at_place, at_start, both_ways, ClosesSoFar, EachNote, IsFirstFault, Journal, journal_of, RespectsCloses, subst, sym, whole_walk, ℕ, ◌+◌, ◌∙◌}
 use Rattle.judge_audit.proofs.closes.closes_fault.Goals as goal
 
 pub loop-place-init : goal.loop-place-init

@@ -1,5 +1,4 @@
-use Rattle.base_words.specs.Journal.{at_place}
-use Rattle.judge_audit.specs.Closes.{ClosesSoFar}
+use Rattle.judge_audit.proofs.Names.{at_place, ClosesSoFar}
 use Rattle.judge_audit.proofs.closes.closes_fault.Given as goal
 
 abbrev pub invariant-loop-place : goal.invariant-loop-place

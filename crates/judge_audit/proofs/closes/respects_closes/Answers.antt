@@ -1,6 +1,4 @@
-use Rattle.std.proofs.Common.{◌≡◌, ℕ, true, false, sym, ap, subst, get_or, ◌∙◌}
-use Rattle.std.proofs.lemmas.Bool.{not-true, not-false, both_ways, true≢false}
-use Rattle.std.specs.Prelude.{is_some}
+use Rattle.judge_audit.proofs.Names.{ap, both_ways, false, get_or, is_some, not-false, not-true, subst, sym, true, true≢false, ℕ, ◌∙◌, ◌≡◌}
 use Rattle.judge_audit.proofs.closes.respects_closes.Goals as goal
 use Rattle.judge_audit.proofs.closes.respects_closes.Goals.{then-closes, else-closes}
 

@@ -1,6 +1,4 @@
-use Rattle.std.proofs.Common.{◌≡◌, ℕ, ◌+◌, ◌≤◌, length, sym, ap, subst, ◌∙◌, arith}
-use Rattle.base_words.specs.Filters.{accepted_orders}
-use Rattle.base_words.specs.Journal.{Journal, at_place}
+use Rattle.judge_audit.proofs.Names.{accepted_orders, ap, arith, at_place, Journal, length, subst, sym, ℕ, ◌+◌, ◌∙◌, ◌≡◌, ◌≤◌}
 use Rattle.judge_audit.proofs.closes.sent_count.Goals as goal
 use Rattle.judge_audit.proofs.closes.sent_count.Goals.{then-is_sent_to, else-is_sent_to}
 

@@ -1,6 +1,4 @@
-use Rattle.std.proofs.Common.{◌≡◌, ◌≤◌, length}
-use Rattle.base_words.specs.Filters.{accepted_orders}
-use Rattle.base_words.specs.Journal.{at_place}
+use Rattle.judge_audit.proofs.Names.{accepted_orders, at_place, length, ◌≡◌, ◌≤◌}
 use Rattle.judge_audit.proofs.closes.sent_count.Given as goal
 
 abbrev pub invariant-loop-place : goal.invariant-loop-place

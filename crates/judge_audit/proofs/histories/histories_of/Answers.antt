@@ -1,7 +1,4 @@
-use Rattle.std.proofs.Common.{◌≡◌, ℕ, ◌+◌, subst, arith}
-use Rattle.base_words.specs.Journal.{Journal}
-use Rattle.note_facts.specs.Histories.{IsHistory}
-use Rattle.judge_audit.specs.Histories.{AreHistories}
+use Rattle.judge_audit.proofs.Names.{AreHistories, arith, IsHistory, Journal, subst, ℕ, ◌+◌, ◌≡◌}
 use Rattle.judge_audit.proofs.HistoryTables.{next_histories}
 use Rattle.judge_audit.proofs.histories.histories_of.Goals as goal
 

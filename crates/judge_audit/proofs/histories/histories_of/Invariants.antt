@@ -1,4 +1,4 @@
-use Rattle.judge_audit.specs.Histories.{AreHistories}
+use Rattle.judge_audit.proofs.Names.{AreHistories}
 use Rattle.judge_audit.proofs.histories.histories_of.Given as goal
 
 abbrev pub invariant-loop-actor : goal.invariant-loop-actor

@@ -1,5 +1,4 @@
-use Rattle.std.proofs.Common.{refl}
-use Rattle.std.proofs.lemmas.Bool.{both_ways}
+use Rattle.judge_audit.proofs.Names.{both_ways, refl}
 use Rattle.judge_audit.proofs.KeptRules.{none_before}
 use Rattle.judge_audit.proofs.VerdictLaws.{says_sound, says_kept, says_broken, only_sound}
 use Rattle.judge_audit.proofs.judge.audit.Goals as goal

@@ -1,4 +1,4 @@
-use Rattle.std.proofs.Common.{refl, arith}
+use Rattle.judge_audit.proofs.Names.{arith, refl}
 use Rattle.judge_audit.proofs.BrokenRules.{placed_closes}
 use Rattle.judge_audit.proofs.KeptRules.{two_before}
 use Rattle.judge_audit.proofs.judge.from_closes.Goals as goal

@@ -1,4 +1,4 @@
-use Rattle.std.proofs.Common.{refl, arith}
+use Rattle.judge_audit.proofs.Names.{arith, refl}
 use Rattle.judge_audit.proofs.BrokenRules.{placed_outcomes}
 use Rattle.judge_audit.proofs.KeptRules.{three_before}
 use Rattle.judge_audit.proofs.judge.from_outcomes.Goals as goal

@@ -1,4 +1,4 @@
-use Rattle.std.proofs.Common.{refl, arith}
+use Rattle.judge_audit.proofs.Names.{arith, refl}
 use Rattle.judge_audit.proofs.BrokenRules.{placed_picks}
 use Rattle.judge_audit.proofs.KeptRules.{four_before}
 use Rattle.judge_audit.proofs.judge.from_picks.Goals as goal

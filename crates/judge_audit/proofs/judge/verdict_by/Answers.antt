@@ -1,4 +1,4 @@
-use Rattle.std.proofs.Common.{refl, arith}
+use Rattle.judge_audit.proofs.Names.{arith, refl}
 use Rattle.judge_audit.proofs.BrokenRules.{placed_starts}
 use Rattle.judge_audit.proofs.KeptRules.{none_before}
 use Rattle.judge_audit.proofs.judge.verdict_by.Goals as goal

@@ -1,5 +1,4 @@
-use Rattle.base_words.specs.Journal.{at_place}
-use Rattle.judge_audit.specs.Links.{KnowsOrdersOf}
+use Rattle.judge_audit.proofs.Names.{at_place, KnowsOrdersOf}
 use Rattle.judge_audit.proofs.links.orders_of.Given as goal
 
 abbrev pub invariant-loop-place : goal.invariant-loop-place

@@ -1,7 +1,4 @@
-use Rattle.std.proofs.Common.{◌≡◌, ℕ, ◌+◌, refl, subst, ◌∙◌, ap, arith}
-use Rattle.base_words.specs.Assembly.{journal_of}
-use Rattle.base_words.specs.Journal.{Journal}
-use Rattle.judge_audit.specs.Links.{order_in, KnowsOrdersOf}
+use Rattle.judge_audit.proofs.Names.{ap, arith, Journal, journal_of, KnowsOrdersOf, order_in, refl, subst, ℕ, ◌+◌, ◌∙◌, ◌≡◌}
 use Rattle.judge_audit.proofs.LinkTables.{next_table, all_known}
 use Rattle.judge_audit.proofs.links.orders_sent.Goals as goal
 

@@ -1,4 +1,4 @@
-use Rattle.judge_audit.specs.Links.{order_in, AreTablesOf}
+use Rattle.judge_audit.proofs.Names.{AreTablesOf, order_in}
 use Rattle.judge_audit.proofs.links.orders_sent.Given as goal
 
 abbrev pub invariant-loop-actor : goal.invariant-loop-actor

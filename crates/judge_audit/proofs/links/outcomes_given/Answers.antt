@@ -1,7 +1,4 @@
-use Rattle.std.proofs.Common.{◌≡◌, ℕ, ◌+◌, refl, subst, ◌∙◌, ap, arith}
-use Rattle.base_words.specs.Assembly.{journal_of}
-use Rattle.base_words.specs.Journal.{Journal}
-use Rattle.judge_audit.specs.Links.{outcome_in, KnowsOutcomesOf}
+use Rattle.judge_audit.proofs.Names.{ap, arith, Journal, journal_of, KnowsOutcomesOf, outcome_in, refl, subst, ℕ, ◌+◌, ◌∙◌, ◌≡◌}
 use Rattle.judge_audit.proofs.LinkTables.{next_table, all_known}
 use Rattle.judge_audit.proofs.links.outcomes_given.Goals as goal
 

@@ -1,4 +1,4 @@
-use Rattle.judge_audit.specs.Links.{outcome_in, AreTablesOf}
+use Rattle.judge_audit.proofs.Names.{AreTablesOf, outcome_in}
 use Rattle.judge_audit.proofs.links.outcomes_given.Given as goal
 
 abbrev pub invariant-loop-actor : goal.invariant-loop-actor

@@ -1,8 +1,4 @@
-use Rattle.std.proofs.Common.{ℕ, refl, sym, subst, arith}
-use Rattle.base_words.specs.Journal.{Journal, at_place}
-use Rattle.note_facts.proofs.Walks.{at_start, whole_walk}
-use Rattle.judge_audit.specs.Links.{KnowsOutcomesOf}
-use Rattle.note_facts.proofs.FirstUnder.{next_outcome}
+use Rattle.judge_audit.proofs.Names.{arith, at_place, at_start, Journal, KnowsOutcomesOf, next_outcome, refl, subst, sym, whole_walk, ℕ}
 use Rattle.judge_audit.proofs.links.outcomes_of.Goals as goal
 
 pub loop-place-init : goal.loop-place-init

@@ -1,8 +1,4 @@
-use Rattle.std.proofs.Common.{ℕ, ◌<◌, length, sym, subst, arith}
-use Rattle.note_facts.specs.Accounts.{greatest_count}
-use Rattle.note_facts.specs.AllAccounts.{KnowsAccounts}
-use Rattle.base_words.specs.Journal.{Journal, at_place}
-use Rattle.note_facts.proofs.Walks.{at_start, length-at_place, whole_walk}
+use Rattle.judge_audit.proofs.Names.{arith, at_place, at_start, greatest_count, Journal, KnowsAccounts, length, length-at_place, subst, sym, whole_walk, ℕ, ◌<◌}
 use Rattle.judge_audit.proofs.lost.accounts_after.Goals as goal
 
 pub loop-place-init : goal.loop-place-init

@@ -1,5 +1,4 @@
-use Rattle.note_facts.specs.AllAccounts.{KnowsAccounts}
-use Rattle.base_words.specs.Journal.{at_place}
+use Rattle.judge_audit.proofs.Names.{at_place, KnowsAccounts}
 use Rattle.judge_audit.proofs.lost.accounts_after.Given as goal
 
 abbrev pub invariant-loop-place : goal.invariant-loop-place

@@ -1,9 +1,4 @@
-use Rattle.std.proofs.Common.{ℕ}
-use Rattle.base_words.specs.Assembly.{Assembly}
-use Rattle.base_words.specs.Journal.{Journal, EachNote, at_place}
-use Rattle.judge_audit.specs.Links.{KnowsOrders}
-use Rattle.note_facts.specs.Histories.{IsHistory}
-use Rattle.judge_audit.specs.Ends.{EndedIfSent}
+use Rattle.judge_audit.proofs.Names.{Assembly, at_place, EachNote, EndedIfSent, IsHistory, Journal, KnowsOrders, ℕ}
 use Rattle.judge_audit.proofs.lost.all_ended.Given as goal
 
 abbrev pub invariant-loop-place : goal.invariant-loop-place

@@ -1,8 +1,4 @@
-use Rattle.std.proofs.Common.{◌≡◌, ℕ, length, arith, below_more}
-use Rattle.std.specs.Prelude.{Some}
-use Rattle.std.proofs.lemmas.Bool.{both_ways}
-use Rattle.base_words.specs.Closing.{final_count}
-use Rattle.base_words.specs.Filters.{delivered_names}
+use Rattle.judge_audit.proofs.Names.{arith, below_more, both_ways, delivered_names, final_count, length, Some, ℕ, ◌≡◌}
 use Rattle.judge_audit.proofs.lost.are_emptied.Goals as goal
 
 pub loop-sender-preserved : goal.loop-sender-preserved

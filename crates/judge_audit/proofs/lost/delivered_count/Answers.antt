@@ -1,6 +1,4 @@
-use Rattle.std.proofs.Common.{◌≡◌, ℕ, ◌+◌, ◌≤◌, length, sym, ap, subst, ◌∙◌, arith}
-use Rattle.base_words.specs.Filters.{delivered_names}
-use Rattle.base_words.specs.Journal.{Journal, at_place}
+use Rattle.judge_audit.proofs.Names.{ap, arith, at_place, delivered_names, Journal, length, subst, sym, ℕ, ◌+◌, ◌∙◌, ◌≡◌, ◌≤◌}
 use Rattle.judge_audit.proofs.lost.delivered_count.Goals as goal
 use Rattle.judge_audit.proofs.lost.delivered_count.Goals.{then-is_delivered_from, else-is_delivered_from}
 

@@ -1,6 +1,4 @@
-use Rattle.std.proofs.Common.{◌≡◌, ◌≤◌, length}
-use Rattle.base_words.specs.Filters.{delivered_names}
-use Rattle.base_words.specs.Journal.{at_place}
+use Rattle.judge_audit.proofs.Names.{at_place, delivered_names, length, ◌≡◌, ◌≤◌}
 use Rattle.judge_audit.proofs.lost.delivered_count.Given as goal
 
 abbrev pub invariant-loop-place : goal.invariant-loop-place

@@ -1,5 +1,4 @@
-use Rattle.std.proofs.Common.{◌≡◌, ap, arith}
-use Rattle.base_words.specs.declared.names.JobId.{JobId}
+use Rattle.judge_audit.proofs.Names.{ap, arith, JobId, ◌≡◌}
 use Rattle.judge_audit.proofs.lost.ended_if_sent.Goals as goal
 
 pub returns-else-name-core : goal.returns-else-name-core

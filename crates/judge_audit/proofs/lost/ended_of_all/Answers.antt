@@ -1,8 +1,4 @@
-use Rattle.std.proofs.Common.{ℕ, subst, below_more}
-use Rattle.std.proofs.lemmas.Bool.{both_ways}
-use Rattle.base_words.specs.Assembly.{journal_of}
-use Rattle.base_words.specs.Journal.{Journal, EachNote}
-use Rattle.judge_audit.specs.Ends.{EndedIfSent}
+use Rattle.judge_audit.proofs.Names.{below_more, both_ways, EachNote, EndedIfSent, Journal, journal_of, subst, ℕ}
 use Rattle.judge_audit.proofs.lost.ended_of_all.Goals as goal
 
 pub loop-sender-preserved : goal.loop-sender-preserved

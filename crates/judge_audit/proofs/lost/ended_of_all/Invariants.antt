@@ -1,7 +1,4 @@
-use Rattle.std.proofs.Common.{ℕ, ◌<◌}
-use Rattle.base_words.specs.Assembly.{journal_of}
-use Rattle.base_words.specs.Journal.{EachNote}
-use Rattle.judge_audit.specs.Ends.{EndedIfSent}
+use Rattle.judge_audit.proofs.Names.{EachNote, EndedIfSent, journal_of, ℕ, ◌<◌}
 use Rattle.judge_audit.proofs.lost.ended_of_all.Given as goal
 
 abbrev pub invariant-loop-sender : goal.invariant-loop-sender

@@ -1,7 +1,4 @@
-use Rattle.std.proofs.Common.{◌≡◌, ℕ, sym, ap, ◌∙◌, arith}
-use Rattle.base_words.specs.Closing.{final_count}
-use Rattle.base_words.specs.Journal.{Journal, at_place}
-use Rattle.note_facts.proofs.Walks.{at_start, whole_walk}
+use Rattle.judge_audit.proofs.Names.{ap, arith, at_place, at_start, final_count, Journal, sym, whole_walk, ℕ, ◌∙◌, ◌≡◌}
 use Rattle.judge_audit.proofs.lost.final_count.Goals as goal
 
 pub loop-place-init : goal.loop-place-init

@@ -1,6 +1,4 @@
-use Rattle.std.proofs.Common.{◌≡◌}
-use Rattle.base_words.specs.Closing.{final_count}
-use Rattle.base_words.specs.Journal.{at_place}
+use Rattle.judge_audit.proofs.Names.{at_place, final_count, ◌≡◌}
 use Rattle.judge_audit.proofs.lost.final_count.Given as goal
 
 abbrev pub invariant-loop-place : goal.invariant-loop-place

@@ -1,10 +1,5 @@
-use Rattle.std.proofs.Common.{◌≡◌, ◌∙◌, ℕ, refl}
-use Rattle.base_words.specs.declared.names.JobId.{JobId}
-use Rattle.base_words.specs.declared.order.Order.{Order}
+use Rattle.judge_audit.proofs.Names.{ended_by, is_told, JobId, Journal, name_answered, Order, refl, ℕ, ◌∙◌, ◌≡◌}
 use Rattle.base_words.specs.declared.order.Order.TheVariants.{Job, Create, SetShares, Close, CloseCore, Wake}
-use Rattle.base_words.specs.Clauses.{name_answered}
-use Rattle.base_words.specs.Journal.{Journal, is_told}
-use Rattle.judge_audit.specs.Ends.{ended_by}
 use Rattle.judge_audit.proofs.lost.has_ended.Goals as goal
 
 -- what is no job ends by its answer

@@ -1,4 +1,4 @@
-use Rattle.std.proofs.Common.{sym, ◌∙◌}
+use Rattle.judge_audit.proofs.Names.{sym, ◌∙◌}
 use Rattle.judge_audit.proofs.lost.has_ended_under.Goals as goal
 
 pub returns-in-Some : goal.returns-in-Some

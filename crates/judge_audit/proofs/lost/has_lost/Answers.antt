@@ -1,9 +1,4 @@
-use Rattle.std.proofs.Common.{◌≡◌, ℕ, true, sym, ap, subst, ◌∙◌, arith}
-use Rattle.std.proofs.lemmas.Bool.{both_ways, false_from_ne_true, not_from_true, true≢false}
-use Rattle.base_words.specs.Assembly.{journal_of}
-use Rattle.base_words.specs.Closing.{IsDrained}
-use Rattle.base_words.specs.Journal.{Journal}
-use Rattle.base_words.specs.Work.{has_work}
+use Rattle.judge_audit.proofs.Names.{ap, arith, both_ways, false_from_ne_true, has_work, IsDrained, Journal, journal_of, not_from_true, subst, sym, true, true≢false, ℕ, ◌∙◌, ◌≡◌}
 use Rattle.judge_audit.proofs.AllEnded.{all_ended, each_ended, is_kept}
 use Rattle.judge_audit.proofs.lost.has_lost.Goals as goal
 

@@ -1,5 +1,4 @@
-use Rattle.note_facts.specs.AllAccounts.{account_of}
-use Rattle.note_facts.proofs.AllAccounts.{has_nobody, is_empty}
+use Rattle.judge_audit.proofs.Names.{account_of, has_nobody, is_empty}
 use Rattle.judge_audit.proofs.lost.is_idle.Goals as goal
 
 pub returns-clause-right : goal.returns-clause-right

@@ -1,11 +1,4 @@
-use Rattle.std.proofs.Common.{ℕ, ◌+◌, sym, subst, ◌∙◌, arith}
-use Rattle.std.proofs.lemmas.Bool.{both_ways}
-use Rattle.base_words.specs.Clauses.{StandsInOrder, StartsRight}
-use Rattle.base_words.specs.Journal.{Journal, EachNote, at_place}
-use Rattle.base_words.specs.Spelled.{IsSpelledNote}
-use Rattle.note_facts.proofs.FirstFaults.{each_before}
-use Rattle.note_facts.proofs.Walks.{at_start, whole_walk}
-use Rattle.judge_audit.specs.Numbers.{OrderSoFar, AreReached, KnowsOrder}
+use Rattle.judge_audit.proofs.Names.{AreReached, arith, at_place, at_start, both_ways, each_before, EachNote, IsSpelledNote, Journal, KnowsOrder, OrderSoFar, StandsInOrder, StartsRight, subst, sym, whole_walk, ℕ, ◌+◌, ◌∙◌}
 use Rattle.judge_audit.proofs.NumberSteps.{entered_as_sent}
 use Rattle.judge_audit.proofs.order.order_fault.Goals as goal
 

@@ -1,9 +1,4 @@
-use Rattle.std.proofs.Common.{◌≡◌, ℕ, length}
-use Rattle.base_words.specs.Assembly.{Assembly}
-use Rattle.base_words.specs.Clauses.{StartsRight}
-use Rattle.base_words.specs.Journal.{EachNote, at_place}
-use Rattle.judge_audit.specs.Links.{KnowsOrders}
-use Rattle.judge_audit.specs.Numbers.{OrderSoFar, AreReached, all_rows}
+use Rattle.judge_audit.proofs.Names.{all_rows, AreReached, Assembly, at_place, EachNote, KnowsOrders, length, OrderSoFar, StartsRight, ℕ, ◌≡◌}
 use Rattle.judge_audit.proofs.order.order_fault.Given as goal
 
 abbrev pub invariant-loop-place : goal.invariant-loop-place

@@ -1,8 +1,4 @@
-use Rattle.std.proofs.Common.{◌+◌, sym, ap, ◌∙◌, subst, arith}
-use Rattle.std.specs.Prelude.{Option}
-use Rattle.base_words.specs.declared.order.Order.{Order}
-use Rattle.base_words.specs.Assembly.{order_of}
-use Rattle.judge_audit.specs.Numbers.{queue_asked, IsAbove}
+use Rattle.judge_audit.proofs.Names.{ap, arith, IsAbove, Option, Order, order_of, queue_asked, subst, sym, ◌+◌, ◌∙◌}
 use Rattle.judge_audit.proofs.NumberSteps.{start_stands, asked_job}
 use Rattle.judge_audit.proofs.Reached.{must_be_above}
 use Rattle.judge_audit.proofs.order.stands_in_order.Goals as goal

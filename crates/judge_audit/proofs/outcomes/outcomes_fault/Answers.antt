@@ -1,8 +1,4 @@
-use Rattle.std.proofs.Common.{ℕ, sym, subst, arith}
-use Rattle.std.proofs.lemmas.Bool.{both_ways}
-use Rattle.base_words.specs.Clauses.{OutcomesRight}
-use Rattle.base_words.specs.Journal.{Journal, EachNote, at_place}
-use Rattle.note_facts.proofs.Walks.{at_start, whole_walk}
+use Rattle.judge_audit.proofs.Names.{arith, at_place, at_start, both_ways, EachNote, Journal, OutcomesRight, subst, sym, whole_walk, ℕ}
 use Rattle.judge_audit.proofs.outcomes.outcomes_fault.Goals as goal
 
 pub loop-place-init : goal.loop-place-init

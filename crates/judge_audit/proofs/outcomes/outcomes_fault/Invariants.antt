@@ -1,8 +1,4 @@
-use Rattle.std.proofs.Common.{ℕ}
-use Rattle.base_words.specs.Assembly.{Assembly}
-use Rattle.base_words.specs.Clauses.{OutcomesRight}
-use Rattle.base_words.specs.Journal.{EachNote, at_place}
-use Rattle.judge_audit.specs.Links.{KnowsOrders, KnowsOutcomes}
+use Rattle.judge_audit.proofs.Names.{Assembly, at_place, EachNote, KnowsOrders, KnowsOutcomes, OutcomesRight, ℕ}
 use Rattle.judge_audit.proofs.outcomes.outcomes_fault.Given as goal
 
 abbrev pub invariant-loop-place : goal.invariant-loop-place

@@ -1,5 +1,4 @@
-use Rattle.std.proofs.Common.{refl, sym, ◌∙◌}
-use Rattle.std.proofs.lemmas.Bool.{not-true, not_from_false, both_ways}
+use Rattle.judge_audit.proofs.Names.{both_ways, not-true, not_from_false, refl, sym, ◌∙◌}
 use Rattle.judge_audit.proofs.outcomes.outcomes_right.Goals as goal
 
 pub returns-then-may_end-clause-right : goal.returns-then-may_end-clause-right

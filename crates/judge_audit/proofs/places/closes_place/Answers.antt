@@ -1,5 +1,4 @@
-use Rattle.std.proofs.Common.{arith, below_more}
-use Rattle.judge_audit.specs.Places.{ClosesOf}
+use Rattle.judge_audit.proofs.Names.{arith, below_more, ClosesOf}
 use Rattle.judge_audit.proofs.places.closes_place.Goals as goal
 
 pub loop-core-preserved : goal.loop-core-preserved

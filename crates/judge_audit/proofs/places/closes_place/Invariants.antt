@@ -1,7 +1,4 @@
-use Rattle.std.proofs.Common.{ℕ, ◌<◌}
-use Rattle.base_words.specs.Assembly.{journal_of}
-use Rattle.base_words.specs.Clauses.{RespectsCloses}
-use Rattle.base_words.specs.Journal.{EachNote}
+use Rattle.judge_audit.proofs.Names.{EachNote, journal_of, RespectsCloses, ℕ, ◌<◌}
 use Rattle.judge_audit.proofs.places.closes_place.Given as goal
 
 abbrev pub invariant-loop-core : goal.invariant-loop-core

@@ -1,9 +1,5 @@
-use Rattle.std.proofs.Common.{◌≡◌, ℕ, refl, subst, arith, below_more}
-use Rattle.base_words.specs.Assembly.{journal_of, IsPrefix, names_of}
-use Rattle.base_words.specs.Filters.{given_outcomes, collected_outcomes}
-use Rattle.base_words.specs.Journal.{Journal}
+use Rattle.judge_audit.proofs.Names.{arith, below_more, collected_outcomes, CollectionsOff, given_outcomes, IsLeast, IsPrefix, Journal, journal_of, names_of, refl, subst, ℕ, ◌≡◌}
 use Rattle.judge_audit.proofs.ToldNames.{none_off, collected_at_place}
-use Rattle.judge_audit.specs.OrderFaults.{IsLeast, CollectionsOff}
 use Rattle.judge_audit.proofs.LeastLines.{prefix_least}
 use Rattle.judge_audit.proofs.LinksOff.{next_collected}
 use Rattle.judge_audit.proofs.places.collections_line.Goals as goal

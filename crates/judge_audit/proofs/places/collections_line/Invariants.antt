@@ -1,9 +1,4 @@
-use Rattle.std.proofs.Common.{◌≡◌, ℕ, ◌<◌}
-use Rattle.std.specs.Prelude.{None}
-use Rattle.base_words.specs.Assembly.{journal_of, IsPrefix, names_of}
-use Rattle.base_words.specs.Filters.{given_outcomes, collected_outcomes}
-use Rattle.judge_audit.specs.OrderFaults.{IsLeast, CollectionsOff}
-use Rattle.judge_audit.specs.Places.{CollectionsOf}
+use Rattle.judge_audit.proofs.Names.{collected_outcomes, CollectionsOf, CollectionsOff, given_outcomes, IsLeast, IsPrefix, journal_of, names_of, None, ℕ, ◌<◌, ◌≡◌}
 use Rattle.judge_audit.proofs.places.collections_line.Given as goal
 
 abbrev pub invariant-loop-core : goal.invariant-loop-core

@@ -1,8 +1,5 @@
-use Rattle.std.proofs.Common.{◌≡◌, ℕ, ◌+◌, refl, ap, ◌∙◌, subst, arith, below_more}
-use Rattle.base_words.specs.Assembly.{journal_of, IsPrefix, names_of}
-use Rattle.base_words.specs.Filters.{accepted_orders, delivered_names, name_delivered}
+use Rattle.judge_audit.proofs.Names.{accepted_orders, ap, arith, below_more, delivered_names, DeliveriesOff, IsLeast, IsPrefix, journal_of, name_delivered, names_of, refl, subst, ℕ, ◌+◌, ◌∙◌, ◌≡◌}
 use Rattle.judge_audit.proofs.ToldNames.{none_off, told_at_place}
-use Rattle.judge_audit.specs.OrderFaults.{IsLeast, DeliveriesOff}
 use Rattle.judge_audit.proofs.LeastLines.{prefix_least}
 use Rattle.judge_audit.proofs.LinksOff.{next_delivered}
 use Rattle.judge_audit.proofs.places.deliveries_line.Goals as goal

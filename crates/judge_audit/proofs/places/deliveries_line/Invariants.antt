@@ -1,9 +1,4 @@
-use Rattle.std.proofs.Common.{◌≡◌, ℕ, ◌<◌}
-use Rattle.std.specs.Prelude.{None}
-use Rattle.base_words.specs.Assembly.{journal_of, IsPrefix, names_of}
-use Rattle.base_words.specs.Filters.{accepted_orders, delivered_names}
-use Rattle.judge_audit.specs.OrderFaults.{IsLeast, DeliveriesOff}
-use Rattle.judge_audit.specs.Places.{DeliveriesOf}
+use Rattle.judge_audit.proofs.Names.{accepted_orders, delivered_names, DeliveriesOf, DeliveriesOff, IsLeast, IsPrefix, journal_of, names_of, None, ℕ, ◌<◌, ◌≡◌}
 use Rattle.judge_audit.proofs.places.deliveries_line.Given as goal
 
 abbrev pub invariant-loop-sender : goal.invariant-loop-sender

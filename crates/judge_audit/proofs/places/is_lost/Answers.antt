@@ -1,4 +1,4 @@
-use Rattle.std.proofs.Common.{arith}
+use Rattle.judge_audit.proofs.Names.{arith}
 use Rattle.judge_audit.proofs.places.is_lost.Goals as goal
 
 pub returns-then-actor-cores : goal.returns-then-actor-cores

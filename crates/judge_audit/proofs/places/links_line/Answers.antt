@@ -1,5 +1,4 @@
-use Rattle.std.proofs.Common.{◌+◌, arith}
-use Rattle.judge_audit.specs.OrderFaults.{DeliveriesOff, CollectionsOff}
+use Rattle.judge_audit.proofs.Names.{arith, CollectionsOff, DeliveriesOff, ◌+◌}
 use Rattle.judge_audit.proofs.LeastLines.{both_least}
 use Rattle.judge_audit.proofs.LinksOff.{core_links, outside_links}
 use Rattle.judge_audit.proofs.places.links_line.Goals as goal

@@ -1,10 +1,4 @@
-use Rattle.std.proofs.Common.{ℕ, subst, refl}
-use Rattle.base_words.specs.Clauses.{StandsInOrder}
-use Rattle.base_words.specs.Journal.{Journal, EachNote}
-use Rattle.base_words.specs.Terms.{terms_of}
-use Rattle.base_words.specs.Assembly.{journal_of}
-use Rattle.note_facts.specs.Faults.{IsFirstFault}
-use Rattle.judge_audit.specs.OrderFaults.{IsLeast, LinksOff, OrderOff}
+use Rattle.judge_audit.proofs.Names.{EachNote, IsFirstFault, IsLeast, Journal, journal_of, LinksOff, OrderOff, refl, StandsInOrder, subst, terms_of, ℕ}
 use Rattle.judge_audit.proofs.LeastLines.{both_least, notes_least, least_some}
 use Rattle.judge_audit.proofs.NoFaults.{if_found}
 use Rattle.judge_audit.proofs.places.order_line.Goals as goal

@@ -1,5 +1,4 @@
-use Rattle.std.proofs.Common.{arith, below_more}
-use Rattle.judge_audit.specs.Places.{IsInOrder}
+use Rattle.judge_audit.proofs.Names.{arith, below_more, IsInOrder}
 use Rattle.judge_audit.proofs.places.order_place.Goals as goal
 
 pub loop-actor-preserved : goal.loop-actor-preserved

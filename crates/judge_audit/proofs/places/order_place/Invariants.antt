@@ -1,5 +1,4 @@
-use Rattle.std.proofs.Common.{ℕ, ◌<◌}
-use Rattle.judge_audit.specs.Places.{IsInOrder}
+use Rattle.judge_audit.proofs.Names.{IsInOrder, ℕ, ◌<◌}
 use Rattle.judge_audit.proofs.places.order_place.Given as goal
 
 abbrev pub invariant-loop-actor : goal.invariant-loop-actor

@@ -1,9 +1,4 @@
-use Rattle.std.proofs.Common.{ℕ, inl, inr, refl, sym, subst}
-use Rattle.std.proofs.lemmas.Bool.{both_ways}
-use Rattle.base_words.specs.Clauses.{OutcomesRight}
-use Rattle.base_words.specs.Journal.{Journal, EachNote}
-use Rattle.note_facts.specs.Faults.{IsFirstFault}
-use Rattle.note_facts.specs.Histories.{IsHistory}
+use Rattle.judge_audit.proofs.Names.{both_ways, EachNote, inl, inr, IsFirstFault, IsHistory, Journal, OutcomesRight, refl, subst, sym, ℕ}
 use Rattle.judge_audit.proofs.NoFaults.{if_found}
 use Rattle.judge_audit.proofs.places.outcomes_line.Goals as goal
 

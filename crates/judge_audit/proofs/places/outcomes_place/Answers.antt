@@ -1,5 +1,4 @@
-use Rattle.std.proofs.Common.{arith, below_more}
-use Rattle.judge_audit.specs.Places.{OutcomesOf}
+use Rattle.judge_audit.proofs.Names.{arith, below_more, OutcomesOf}
 use Rattle.judge_audit.proofs.places.outcomes_place.Goals as goal
 
 pub outcomes_line-requires-clause-history : goal.outcomes_line-requires-clause-history

@@ -1,12 +1,5 @@
-use Rattle.std.proofs.Common.{◌≡◌, ℕ, sym, subst, arith, below_more}
-use Rattle.std.specs.Prelude.{None}
-use Rattle.base_words.specs.Assembly.{journal_of}
-use Rattle.base_words.specs.Clauses.{PicksRight, queue_just_picked}
-use Rattle.base_words.specs.Journal.{Journal, EachNote}
-use Rattle.base_words.specs.Terms.{terms_of}
-use Rattle.note_facts.specs.Histories.{IsHistory}
-use Rattle.judge_picks.specs.PickFaults.{IsPickFault}
-use Rattle.judge_audit.specs.Places.{PicksOf}
+use Rattle.judge_audit.proofs.Names.{arith, below_more, EachNote, IsHistory, IsPickFault, Journal, journal_of, None, PicksOf, PicksRight, subst, sym, terms_of, ℕ, ◌≡◌}
+use Rattle.base_words.specs.Clauses.{queue_just_picked}
 use Rattle.judge_audit.proofs.places.picks_place.Goals as goal
 
 pub picks_fault-requires : goal.picks_fault-requires

@@ -1,5 +1,4 @@
-use Rattle.std.proofs.Common.{ℕ, ◌<◌}
-use Rattle.judge_audit.specs.Places.{PicksOf}
+use Rattle.judge_audit.proofs.Names.{PicksOf, ℕ, ◌<◌}
 use Rattle.judge_audit.proofs.places.picks_place.Given as goal
 
 abbrev pub invariant-loop-core : goal.invariant-loop-core

@@ -1,9 +1,4 @@
-use Rattle.std.proofs.Common.{ℕ, subst, sym, arith, below_more}
-use Rattle.base_words.specs.Clauses.{StartsRight}
-use Rattle.base_words.specs.Journal.{Journal, EachNote}
-use Rattle.note_facts.specs.Faults.{IsFirstFault}
-use Rattle.note_facts.specs.Histories.{IsHistory}
-use Rattle.judge_audit.specs.Places.{StartsOf}
+use Rattle.judge_audit.proofs.Names.{arith, below_more, EachNote, IsFirstFault, IsHistory, Journal, StartsOf, StartsRight, subst, sym, ℕ}
 use Rattle.judge_audit.proofs.places.starts_place.Goals as goal
 
 pub starts_fault-requires : goal.starts_fault-requires

@@ -1,5 +1,4 @@
-use Rattle.std.proofs.Common.{ℕ, ◌<◌}
-use Rattle.judge_audit.specs.Places.{StartsOf}
+use Rattle.judge_audit.proofs.Names.{StartsOf, ℕ, ◌<◌}
 use Rattle.judge_audit.proofs.places.starts_place.Given as goal
 
 abbrev pub invariant-loop-actor : goal.invariant-loop-actor

@@ -1,7 +1,4 @@
-use Rattle.std.proofs.Common.{◌≡◌, ◌++◌, sym, ◌∙◌, subst}
-use Rattle.std.proofs.lemmas.Bool.{both_ways}
-use Rattle.base_words.specs.Journal.{list_told, with_last, at_place}
-use Rattle.judge_audit.specs.Sides.{name_told}
+use Rattle.judge_audit.proofs.Names.{at_place, both_ways, list_told, name_told, subst, sym, with_last, ◌++◌, ◌∙◌, ◌≡◌}
 use Rattle.judge_audit.proofs.ToldNames.{same_next, told_at_place}
 use Rattle.judge_audit.proofs.prefixes.advance.Goals as goal
 

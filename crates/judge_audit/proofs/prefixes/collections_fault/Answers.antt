@@ -1,8 +1,4 @@
-use Rattle.std.proofs.Common.{ℕ, sym}
-use Rattle.base_words.specs.Assembly.{names_of}
-use Rattle.base_words.specs.Filters.{collected_outcomes}
-use Rattle.base_words.specs.Journal.{Journal, list_told}
-use Rattle.judge_audit.specs.Sides.{name_collected}
+use Rattle.judge_audit.proofs.Names.{collected_outcomes, Journal, list_told, name_collected, names_of, sym, ℕ}
 use Rattle.judge_audit.proofs.ToldNames.{names_collected, names_given, off_same}
 use Rattle.judge_audit.proofs.prefixes.collections_fault.Goals as goal
 

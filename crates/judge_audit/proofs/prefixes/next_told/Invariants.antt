@@ -1,6 +1,4 @@
-use Rattle.std.proofs.Common.{◌≡◌}
-use Rattle.base_words.specs.Journal.{list_told, at_place}
-use Rattle.judge_audit.specs.Sides.{name_told}
+use Rattle.judge_audit.proofs.Names.{at_place, list_told, name_told, ◌≡◌}
 use Rattle.judge_audit.proofs.prefixes.next_told.Given as goal
 
 abbrev pub invariant-loop-place : goal.invariant-loop-place

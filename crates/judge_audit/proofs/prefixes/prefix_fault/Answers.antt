@@ -1,8 +1,4 @@
-use Rattle.std.proofs.Common.{refl, sym, ap, subst, ◌∙◌, arith}
-use Rattle.base_words.specs.Assembly.{IsPrefix}
-use Rattle.base_words.specs.Journal.{list_told, with_last}
-use Rattle.note_facts.proofs.Walks.{at_start, whole_walk}
-use Rattle.judge_audit.specs.Sides.{name_told}
+use Rattle.judge_audit.proofs.Names.{ap, arith, at_start, IsPrefix, list_told, name_told, refl, subst, sym, whole_walk, with_last, ◌∙◌}
 use Rattle.judge_audit.proofs.ToldNames.{told_at_place}
 use Rattle.judge_audit.proofs.prefixes.prefix_fault.Goals as goal
 

@@ -1,4 +1,4 @@
-use Rattle.judge_audit.specs.Sides.{AreEven}
+use Rattle.judge_audit.proofs.Names.{AreEven}
 use Rattle.judge_audit.proofs.prefixes.prefix_fault.Given as goal
 
 abbrev pub invariant-loop-place : goal.invariant-loop-place

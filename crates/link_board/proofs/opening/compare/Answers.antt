@@ -1,6 +1,4 @@
-use Rattle.std.proofs.Common.{rules, arith, ap}
-use Rattle.base_jobs.specs.Ready.{HasReadyJob}
-use Rattle.link_ends.specs.Fits.{Fits}
+use Rattle.link_board.proofs.Names.{ap, arith, Fits, HasReadyJob, rules}
 use Rattle.link_board.proofs.Joining.{joins, compares, Compares-ends}
 use Rattle.link_board.proofs.Parting.{sends-joined, takes-joined, sends-last, takes-last, IsSender-parted, IsReceiver-parted, out-parted, inward-parted}
 use Rattle.link_board.proofs.Starting.{parts}

@@ -1,6 +1,4 @@
-use Rattle.std.proofs.Common.{rules, ap}
-use Rattle.base_jobs.specs.Ready.{HasReadyJob}
-use Rattle.link_ends.specs.Fits.{Fits}
+use Rattle.link_board.proofs.Names.{ap, Fits, HasReadyJob, rules}
 use Rattle.link_board.proofs.Starting.{starts, parts}
 use Rattle.link_board.proofs.opening.lay.Goals as goal
 

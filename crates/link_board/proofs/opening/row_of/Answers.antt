@@ -1,4 +1,4 @@
-use Rattle.std.proofs.Common.{rules}
+use Rattle.link_board.proofs.Names.{rules}
 use Rattle.link_board.proofs.Fresh.{fresh_pushed}
 use Rattle.link_board.proofs.opening.row_of.Goals as goal
 

@@ -1,5 +1,4 @@
-use Rattle.std.proofs.Common.{◌≡◌, ◌+◌}
-use Rattle.link_board.specs.Places.{AreFresh}
+use Rattle.link_board.proofs.Names.{AreFresh, ◌+◌, ◌≡◌}
 use Rattle.link_board.proofs.opening.row_of.Given as goal
 
 abbrev pub invariant-cells : goal.invariant-cells

@@ -1,6 +1,4 @@
-use Rattle.std.proofs.Common.{rules, arith, ap, sym, ◌∙◌, length}
-use Rattle.base_jobs.specs.Ready.{HasReadyJob}
-use Rattle.link_ends.specs.Fits.{Fits}
+use Rattle.link_board.proofs.Names.{ap, arith, Fits, HasReadyJob, length, rules, sym, ◌∙◌}
 use Rattle.link_board.proofs.Watching.{seals_after, sealed}
 use Rattle.link_board.proofs.receiver.close.Goals as goal
 

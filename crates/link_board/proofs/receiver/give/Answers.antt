@@ -1,7 +1,4 @@
-use Rattle.std.proofs.Common.{rules, arith, ◌∙◌, length, None}
-use Rattle.base_jobs.specs.Ready.{HasReadyJob}
-use Rattle.link_ends.specs.Fits.{Fits}
-use Rattle.link_board.specs.Held.{of_outcome}
+use Rattle.link_board.proofs.Names.{arith, Fits, HasReadyJob, length, None, of_outcome, rules, ◌∙◌}
 use Rattle.link_board.proofs.Filled.{gives_filled}
 use Rattle.link_board.proofs.Lent.{place-small, place-told, given-word, hand_of, filled_is}
 use Rattle.link_board.proofs.ReceiverSteps.{lends_back}

@@ -1,6 +1,4 @@
-use Rattle.std.proofs.Common.{rules, arith}
-use Rattle.base_jobs.specs.Ready.{HasReadyJob}
-use Rattle.link_ends.specs.Fits.{Fits}
+use Rattle.link_board.proofs.Names.{arith, Fits, HasReadyJob, rules}
 use Rattle.link_board.proofs.Lent.{place-small, place-told}
 use Rattle.link_board.proofs.Watching.{looks_after, marks_after}
 use Rattle.link_board.proofs.receiver.mark_next.Goals as goal

@@ -1,5 +1,4 @@
-use Rattle.std.proofs.Common.{◌≡◌, ◌+◌, ◌-◌, false, length}
-use Rattle.link_board.specs.Seats.{Watches}
+use Rattle.link_board.proofs.Names.{false, length, Watches, ◌+◌, ◌-◌, ◌≡◌}
 use Rattle.link_board.proofs.receiver.mark_next.Given as goal
 
 abbrev pub invariant-looks : goal.invariant-looks

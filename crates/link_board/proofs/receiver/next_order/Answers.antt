@@ -1,7 +1,4 @@
-use Rattle.std.proofs.Common.{rules, arith, refl, ◌+◌, None}
-use Rattle.base_jobs.specs.Ready.{HasReadyJob}
-use Rattle.link_ends.specs.Fits.{Fits}
-use Rattle.link_board.specs.After.{with_taken}
+use Rattle.link_board.proofs.Names.{arith, Fits, HasReadyJob, None, refl, rules, with_taken, ◌+◌}
 use Rattle.link_board.proofs.Filled.{homes_receiver}
 use Rattle.link_board.proofs.Lent.{place-small, place-told, order_out, filled_is}
 use Rattle.link_board.proofs.ReceiverSteps.{lifts_order}

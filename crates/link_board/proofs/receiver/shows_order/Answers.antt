@@ -1,5 +1,4 @@
-use Rattle.base_jobs.specs.Ready.{HasReadyJob}
-use Rattle.link_ends.specs.Fits.{Fits}
+use Rattle.link_board.proofs.Names.{Fits, HasReadyJob}
 use Rattle.link_board.proofs.Lent.{place-small, place-told}
 use Rattle.link_board.proofs.Starting.{enters}
 use Rattle.link_board.proofs.receiver.shows_order.Goals as goal

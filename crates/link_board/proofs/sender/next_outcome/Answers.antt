@@ -1,8 +1,4 @@
-use Rattle.std.proofs.Common.{rules, arith, refl, sym, subst, ◌∙◌, ◌+◌, None}
-use Rattle.base_jobs.specs.Ready.{HasReadyJob}
-use Rattle.link_ends.specs.Fits.{Fits}
-use Rattle.link_board.specs.After.{with_got}
-use Rattle.link_board.specs.Told.{SeesOutcomes}
+use Rattle.link_board.proofs.Names.{arith, Fits, HasReadyJob, None, refl, rules, SeesOutcomes, subst, sym, with_got, ◌+◌, ◌∙◌}
 use Rattle.link_board.proofs.Filled.{homes_sender}
 use Rattle.link_board.proofs.Lent.{place-small, place-told, outcome_out, filled_is, homed_is}
 use Rattle.link_board.proofs.Numbers.{place-again}

@@ -1,8 +1,4 @@
-use Rattle.std.proofs.Common.{rules, arith, refl, ◌∙◌, length, None}
-use Rattle.base_jobs.specs.Ready.{HasReadyJob}
-use Rattle.link_ends.specs.Fits.{Fits}
-use Rattle.link_board.specs.After.{with_closed}
-use Rattle.link_board.specs.Held.{of_order}
+use Rattle.link_board.proofs.Names.{arith, Fits, HasReadyJob, length, None, of_order, refl, rules, with_closed, ◌∙◌}
 use Rattle.link_board.proofs.Filled.{accepts_filled, homes_sender}
 use Rattle.link_board.proofs.Lent.{place-small, place-told, order_out, filled_is, missed_is}
 use Rattle.link_board.proofs.SenderSteps.{lends_order}

@@ -1,6 +1,4 @@
-use Rattle.std.proofs.Common.{ℕ, ◌+◌, ◌*◌, ap, arith}
-use Rattle.std.proofs.lemmas.Nat.{mul-lt}
-use Rattle.std.proofs.Math.Nat.{mul-lt-mul_of_pos_left}
+use Rattle.link_board.proofs.Names.{ap, arith, mul-lt, mul-lt-mul_of_pos_left, ℕ, ◌*◌, ◌+◌}
 use Rattle.link_board.proofs.spacing.cells_for.Goals as goal
 
 pub overflow_mul-result : goal.overflow_mul-result

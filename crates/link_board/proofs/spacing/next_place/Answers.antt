@@ -1,6 +1,5 @@
-use Rattle.std.proofs.Common.{◌≡◌, ◌∙◌, ℕ, ◌+◌, ◌*◌, ◌<◌, ◌/◌, ◌%◌, arith, ap, sym}
-use Rattle.std.proofs.Math.Nat.{add_assoc, div-add-mod, mod-eq_of_lt, mod-lt, mod_self, mul-add, mul-add-mod_self_left, mul-one, mul-zero}
-use Rattle.std.proofs.lemmas.Nat.{mul-lt}
+use Rattle.link_board.proofs.Names.{add_assoc, ap, arith, div-add-mod, mod-eq_of_lt, mod_self, mul-add, mul-add-mod_self_left, mul-lt, mul-one, mul-zero, sym, ℕ, ◌%◌, ◌*◌, ◌+◌, ◌/◌, ◌<◌, ◌∙◌, ◌≡◌}
+use Rattle.std.proofs.Math.Nat.{mod-lt}
 use Rattle.link_board.proofs.Windows.{same_turn}
 use Rattle.link_board.proofs.spacing.next_place.Goals as goal
 

@@ -1,5 +1,4 @@
-use Rattle.std.proofs.Common.{arith, ◌+◌, ◌%◌, ◌<◌, mod-lt}
-use Rattle.std.proofs.lemmas.Nat.{mul-lt}
+use Rattle.link_board.proofs.Names.{arith, mod-lt, mul-lt, ◌%◌, ◌+◌, ◌<◌}
 use Rattle.link_board.proofs.spacing.place_at.Goals as goal
 
 pub overflow_mul-result : goal.overflow_mul-result

@@ -1,7 +1,4 @@
-use Rattle.std.proofs.Common.{ap}
-use Rattle.std.specs.Prelude.{is_some}
-use Rattle.run_worker.specs.Gates.{LeavesReturning}
-use Rattle.actor_seat.proofs.Along.{stays_along}
+use Rattle.run_worker.proofs.Names.{ap, is_some, LeavesReturning, stays_along}
 use Rattle.run_worker.proofs.Alone.{alone_grows, alone_now}
 use Rattle.run_worker.proofs.Gated.{ending_now, ending_acts, ending_notes_none, returned_leaves}
 use Rattle.run_worker.proofs.gates.end.Given.{Over}

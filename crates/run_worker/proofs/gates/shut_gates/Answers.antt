@@ -1,7 +1,5 @@
-use Rattle.std.proofs.Common.{refl, sym, subst, arith}
-use Rattle.std.specs.Prelude.{IsSome}
+use Rattle.run_worker.proofs.Names.{arith, IsSome, refl, subst, sym, TellsNotes}
 use Rattle.run_worker.proofs.Gated.{shuts_none, shuts_more}
-use Rattle.run_worker.specs.Rounds.{TellsNotes}
 use Rattle.run_worker.proofs.Telling.{tells_true, tells_false}
 use Rattle.run_worker.proofs.gates.shut_gates.Goals.{then-shut_if_open, else-shut_if_open}
 use Rattle.run_worker.proofs.gates.shut_gates.Goals as goal

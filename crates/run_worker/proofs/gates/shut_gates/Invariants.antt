@@ -1,7 +1,4 @@
-use Rattle.std.proofs.Common.{◌≡◌, ◌+◌}
-use Rattle.actor_seat.specs.Linked.{IsLinked}
-use Rattle.run_worker.specs.Gates.{ShutsFirst}
-use Rattle.run_worker.specs.Rounds.{TellsNotes}
+use Rattle.run_worker.proofs.Names.{IsLinked, ShutsFirst, TellsNotes, ◌+◌, ◌≡◌}
 use Rattle.run_worker.proofs.gates.shut_gates.Given as goal
 
 abbrev pub invariant-loop-sender : goal.invariant-loop-sender

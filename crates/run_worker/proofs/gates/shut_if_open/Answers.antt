@@ -1,7 +1,4 @@
-use Rattle.std.proofs.Common.{sym, subst, ap, ◌∙◌}
-use Rattle.std.specs.Prelude.{is_some}
-use Rattle.base_words.specs.Closing.{final_count}
-use Rattle.actor_seat.specs.Linked.{IsLinked}
+use Rattle.run_worker.proofs.Names.{ap, final_count, is_some, IsLinked, subst, sym, ◌∙◌}
 use Rattle.run_worker.proofs.Gated.{leaves_then, leaves_else}
 use Rattle.run_worker.proofs.gates.shut_if_open.Goals.{then-not-shut, else-not-shut}
 use Rattle.run_worker.proofs.gates.shut_if_open.Goals as goal

@@ -1,8 +1,5 @@
 use Rattle.run_worker.proofs.Ending.{ended_together, ended_drained}
-use Rattle.run_worker.specs.Together.{desk_among, all_ends}
-use Rattle.actor_seat.specs.Together.{worker_at}
-use Rattle.link_ring.specs.Ends.{out_at, in_at}
-use Rattle.link_ring.specs.Grid.{ends_at}
+use Rattle.run_worker.proofs.Names.{all_ends, desk_among, ends_at, in_at, out_at, worker_at}
 use Rattle.run_worker.proofs.laws.ended_are_joined.Goals as goal
 
 pub returns : goal.returns

@@ -1,6 +1,5 @@
-use Rattle.std.proofs.Common.{ap}
+use Rattle.run_worker.proofs.Names.{ap, same_notes}
 use Rattle.run_worker.proofs.Between.{between_notes}
-use Rattle.actor_seat.proofs.Passed.{same_notes}
 use Rattle.run_worker.proofs.linked.hand_on.Goals as goal
 
 pub returns-clause-hands : goal.returns-clause-hands

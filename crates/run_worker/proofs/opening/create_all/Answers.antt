@@ -1,8 +1,5 @@
-use Rattle.std.proofs.Common.{◌+◌, ◌∷◌, ◌∙◌, sym, ap, subst, arith}
-use Rattle.std.proofs.lemmas.List.{get_or_default}
+use Rattle.run_worker.proofs.Names.{ap, arith, created_count, Entry, get_or_default, subst, sym, ◌+◌, ◌∙◌, ◌∷◌}
 use Rattle.base_words.specs.declared.note.Note.TheVariants.{Created}
-use Rattle.base_words.specs.Commands.{created_count}
-use Rattle.run_config.specs.Configs.{Entry}
 use Rattle.run_worker.proofs.Creating.{IsCreating, creating_first, creating_left, creating_more, creating_on, creating_done, creating_noted}
 use Rattle.run_worker.proofs.opening.create_all.Goals.{then-of-core+in_ok-create_one, else-of-core}
 use Rattle.run_worker.proofs.opening.create_all.Goals as goal

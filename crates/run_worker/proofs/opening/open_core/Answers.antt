@@ -1,8 +1,4 @@
-use Rattle.std.proofs.Common.{◌+◌, ◌∙◌, ◌≤◌, sym, ap, subst, arith, length}
-use Rattle.base_words.specs.Commands.{IsOpening}
-use Rattle.run_config.specs.Configs.{queues_of}
-use Rattle.actor_seat.specs.Opening.{CreatesSince}
-use Rattle.run_worker.specs.Queues.{behind_entries}
+use Rattle.run_worker.proofs.Names.{ap, arith, behind_entries, CreatesSince, IsOpening, length, queues_of, subst, sym, ◌+◌, ◌∙◌, ◌≤◌}
 use Rattle.run_worker.proofs.opening.open_core.Goals as goal
 
 pub create_all-requires-clause-opening : goal.create_all-requires-clause-opening

@@ -1,6 +1,4 @@
-use Rattle.std.proofs.Common.{◌∙◌, sym, ap}
-use Rattle.run_worker.specs.Queues.{creations}
-use Rattle.actor_seat.proofs.Opened.{opened_linked}
+use Rattle.run_worker.proofs.Names.{ap, creations, opened_linked, sym, ◌∙◌}
 use Rattle.run_worker.proofs.Opened.{opened_between, opened_acts}
 use Rattle.run_worker.proofs.opening.serve_core.Goals as goal
 

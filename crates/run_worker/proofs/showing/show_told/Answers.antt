@@ -1,9 +1,6 @@
-use Rattle.std.proofs.Common.{◌≡◌, ℕ, ◌+◌, true, inl, inr, refl, sym, ap, ◌∙◌, subst}
-use Rattle.std.proofs.lemmas.Bool.{false≢true}
-use Rattle.note_journal.specs.Journals.{JournalView}
-use Rattle.run_watch.specs.Closed.{closed_by_itself}
+use Rattle.run_worker.proofs.Names.{ap, closed_by_itself, false≢true, inl, inr, JournalView, refl, shown_of, subst, sym, ℕ, ◌+◌, ◌∙◌, ◌≡◌}
+use Rattle.std.proofs.Common.{true}
 use Rattle.run_watch.specs.Tells as board
-use Rattle.run_worker.specs.Shown.{shown_of}
 use Rattle.run_worker.proofs.Published.{many_notes, queues_shown}
 use Rattle.run_worker.proofs.showing.show_told.Goals as goal
 

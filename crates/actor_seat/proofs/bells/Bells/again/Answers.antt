@@ -1,4 +1,4 @@
-use Rattle.std.proofs.Common.{◌<◌, length, arith}
+use Rattle.actor_seat.proofs.Names.{arith, length, ◌<◌}
 use Rattle.actor_seat.proofs.Rung.{one_more_again}
 use Rattle.actor_seat.proofs.bells.Bells.again.Goals as goal
 

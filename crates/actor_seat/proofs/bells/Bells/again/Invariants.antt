@@ -1,5 +1,4 @@
-use Rattle.std.proofs.Common.{◌≡◌, ◌≤◌, length, map, replicate, take}
-use Rattle.actor_seat.specs.Bells.{AreInPlace}
+use Rattle.actor_seat.proofs.Names.{AreInPlace, length, map, replicate, take, ◌≡◌, ◌≤◌}
 use Rattle.actor_seat.proofs.bells.Bells.again.Given as goal
 
 abbrev pub invariant-loop-place : goal.invariant-loop-place

@@ -1,5 +1,5 @@
-use Rattle.std.proofs.Common.{◌≡◌, ◌+◌, ◌≤◌, [], ◌∷◌, ◌∙◌, length, length-append, map, sym, ap, subst, arith}
-use Rattle.actor_seat.specs.Bells.{AreInPlace, BellView, IsNamedFor}
+use Rattle.actor_seat.proofs.Names.{ap, AreInPlace, arith, BellView, IsNamedFor, length, map, subst, sym, [], ◌+◌, ◌∙◌, ◌∷◌, ◌≡◌, ◌≤◌}
+use Rattle.std.proofs.Common.{length-append}
 use Rattle.actor_seat.proofs.Rung.{names_apart, one_more_in_place, one_more_unrung}
 use Rattle.actor_seat.proofs.bells.Bells.open.Goals as goal
 

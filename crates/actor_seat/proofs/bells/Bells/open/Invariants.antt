@@ -1,5 +1,4 @@
-use Rattle.std.proofs.Common.{◌≡◌, ◌+◌, length, map, replicate}
-use Rattle.actor_seat.specs.Bells.{AreInPlace}
+use Rattle.actor_seat.proofs.Names.{AreInPlace, length, map, replicate, ◌+◌, ◌≡◌}
 use Rattle.actor_seat.proofs.bells.Bells.open.Given as goal
 
 abbrev pub invariant-loop-actor : goal.invariant-loop-actor

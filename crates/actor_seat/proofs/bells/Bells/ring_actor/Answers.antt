@@ -1,5 +1,4 @@
-use Rattle.std.proofs.Common.{◌∙◌, ap, arith}
-use Rattle.actor_seat.specs.Bells.{BellsView, rung_at}
+use Rattle.actor_seat.proofs.Names.{ap, arith, BellsView, rung_at, ◌∙◌}
 use Rattle.actor_seat.proofs.Rung.{bell_view_rung, still_in_place}
 use Rattle.actor_seat.proofs.bells.Bells.ring_actor.Goals as goal
 

@@ -1,5 +1,4 @@
-use Rattle.std.proofs.Common.{◌≡◌, drop}
-use Rattle.actor_seat.specs.Bells.{rung_for}
+use Rattle.actor_seat.proofs.Names.{drop, rung_for, ◌≡◌}
 use Rattle.actor_seat.proofs.bells.Bells.ring_for.Given as goal
 
 abbrev pub invariant-loop-note : goal.invariant-loop-note

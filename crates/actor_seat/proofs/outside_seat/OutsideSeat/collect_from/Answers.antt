@@ -1,10 +1,4 @@
-use Rattle.std.proofs.Common.{◌∙◌, ◌+◌, ◌≤◌, ap, length, refl, subst, sym, arith}
-use Rattle.actor_seat.specs.OutsideSeats.{UsesOutside}
-use Rattle.link_ring.specs.Lending.{with_out}
-use Rattle.actor_desk.specs.Spending.{booked}
-use Rattle.link_ends.specs.Fits.{Fits}
-use Rattle.actor_desk.specs.Tickets.{CollectsFrom, GetsAll}
-use Rattle.link_ring.specs.Ends.{out_at}
+use Rattle.actor_seat.proofs.Names.{ap, arith, booked, CollectsFrom, Fits, GetsAll, length, out_at, refl, subst, sym, UsesOutside, with_out, ◌+◌, ◌∙◌, ◌≤◌}
 use Rattle.actor_seat.proofs.Adding.{collects_add}
 use Rattle.actor_seat.proofs.OutsideSeats.{LendsAt, lent_beside, lent_lane, lent_room, seated_now, there_too, uses_now}
 use Rattle.actor_seat.proofs.outside_seat.OutsideSeat.collect_from.Given.{Over}

@@ -1,6 +1,4 @@
-use Rattle.std.proofs.Common.{subst}
-use Rattle.link_ends.specs.Fits.{Fits}
-use Rattle.actor_seat.specs.OutsideSeats.{IsSeatedOutside}
+use Rattle.actor_seat.proofs.Names.{Fits, IsSeatedOutside, subst}
 use Rattle.actor_seat.proofs.outside_seat.OutsideSeat.into_parts.Goals as goal
 
 pub returns-clause-seated : goal.returns-clause-seated

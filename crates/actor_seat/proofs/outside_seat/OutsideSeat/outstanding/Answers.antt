@@ -1,7 +1,4 @@
-use Rattle.std.proofs.Common.{◌<◌, ◌∙◌, ap, subst, sym, arith}
-use Rattle.base_words.specs.Outstanding.{outstanding_count}
-use Rattle.link_ends.specs.Fits.{Fits}
-use Rattle.actor_seat.specs.OutsideSeats.{IsSeatedOutside}
+use Rattle.actor_seat.proofs.Names.{ap, arith, Fits, IsSeatedOutside, outstanding_count, subst, sym, ◌<◌, ◌∙◌}
 use Rattle.actor_seat.proofs.OutsideSeats.{read_beside}
 use Rattle.actor_seat.proofs.outside_seat.OutsideSeat.outstanding.Goals as goal
 

@@ -1,6 +1,4 @@
-use Rattle.std.proofs.Common.{ap}
-use Rattle.link_ends.specs.Fits.{Fits}
-use Rattle.actor_seat.specs.OutsideSeats.{IsSeatedOutside}
+use Rattle.actor_seat.proofs.Names.{ap, Fits, IsSeatedOutside}
 use Rattle.actor_seat.proofs.OutsideSeats.{seated_passed}
 use Rattle.actor_seat.proofs.outside_seat.OutsideSeat.pass_on.Given.{Over}
 use Rattle.actor_seat.proofs.outside_seat.OutsideSeat.pass_on.Goals as goal

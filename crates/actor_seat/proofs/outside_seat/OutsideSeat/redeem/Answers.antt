@@ -1,12 +1,4 @@
-use Rattle.std.proofs.Common.{◌≡◌, ◌<◌, ap, length, subst, sym, arith}
-use Rattle.std.specs.Prelude.{IfOk, OnErr}
-use Rattle.actor_desk.specs.Lanes.{FitsSent, IsGot}
-use Rattle.link_ends.specs.Fits.{Fits}
-use Rattle.actor_desk.specs.Spending.{HoldsSome, Spends}
-use Rattle.actor_desk.specs.Tickets.{RedeemsTicket}
-use Rattle.link_ring.specs.Ends.{out_at}
-use Rattle.link_ring.specs.Lending.{with_out}
-use Rattle.actor_seat.specs.OutsideSeats.{UsesOutside}
+use Rattle.actor_seat.proofs.Names.{ap, arith, Fits, FitsSent, HoldsSome, IfOk, IsGot, length, OnErr, out_at, RedeemsTicket, Spends, subst, sym, UsesOutside, with_out, ◌<◌, ◌≡◌}
 use Rattle.actor_seat.proofs.Adding.{redeems_add}
 use Rattle.actor_seat.proofs.OutsideSeats.{LendsAt, lent_beside, lent_lane, seated_now, there_too, uses_now}
 use Rattle.actor_seat.proofs.Untouched.{redeem_leaves, outside_stays}

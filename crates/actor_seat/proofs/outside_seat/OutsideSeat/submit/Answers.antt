@@ -1,12 +1,4 @@
-use Rattle.std.proofs.Common.{◌≡◌, ◌<◌, ap, length, refl, subst, sym, arith}
-use Rattle.std.specs.Prelude.{IfOk}
-use Rattle.actor_seat.specs.OutsideSeats.{UsesOutside}
-use Rattle.link_ring.specs.Lending.{with_out}
-use Rattle.link_ring.specs.Ends.{out_at}
-use Rattle.actor_desk.specs.Spending.{Spends}
-use Rattle.link_ends.specs.Fits.{Fits}
-use Rattle.actor_desk.specs.Submissions.{Submits, numbered}
-use Rattle.link_ends.specs.Calls.{Sends}
+use Rattle.actor_seat.proofs.Names.{ap, arith, Fits, IfOk, length, numbered, out_at, refl, Sends, Spends, Submits, subst, sym, UsesOutside, with_out, ◌<◌, ◌≡◌}
 use Rattle.actor_seat.proofs.Adding.{submits_add}
 use Rattle.actor_seat.proofs.OutsideSeats.{LendsAt, lent_beside, lent_lane, seated_now, there_too, uses_now}
 use Rattle.actor_seat.proofs.outside_seat.OutsideSeat.submit.Given.{Over}

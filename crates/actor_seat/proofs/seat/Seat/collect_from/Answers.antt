@@ -1,9 +1,4 @@
-use Rattle.std.proofs.Common.{◌+◌, ◌≤◌, length, ap, subst, sym, arith}
-use Rattle.actor_core.specs.Recorded.{desk_of}
-use Rattle.actor_seat.specs.Linked.{IsLinked, LinkedView}
-use Rattle.actor_seat.specs.Seats.{IsSeated}
-use Rattle.actor_seat.specs.Steps.{CollectsOf}
-use Rattle.link_ring.specs.Lending.{with_out}
+use Rattle.actor_seat.proofs.Names.{ap, arith, CollectsOf, desk_of, IsLinked, IsSeated, length, LinkedView, subst, sym, with_out, ◌+◌, ◌≤◌}
 use Rattle.actor_seat.proofs.LentOut.{LendsOut, collected_does, collected_linked, out_beside, out_lane, out_room, out_seated}
 use Rattle.actor_seat.proofs.seat.Seat.collect_from.Given.{Over}
 use Rattle.actor_seat.proofs.seat.Seat.collect_from.Goals as goal

@@ -1,7 +1,4 @@
-use Rattle.std.proofs.Common.{◌+◌, ◌≤◌, length, ap, subst, sym, arith}
-use Rattle.link_ring.specs.Lending.{with_in}
-use Rattle.actor_seat.specs.Linked.{IsLinked}
-use Rattle.actor_seat.specs.Steps.{DeliversFrom}
+use Rattle.actor_seat.proofs.Names.{ap, arith, DeliversFrom, IsLinked, length, subst, sym, with_in, ◌+◌, ◌≤◌}
 use Rattle.actor_seat.proofs.LentIn.{LeavesIn, LendsIn, delivers_does, delivers_linked, delivers_seated, from_in}
 use Rattle.actor_seat.proofs.seat.Seat.deliver.Given.{Over}
 use Rattle.actor_seat.proofs.seat.Seat.deliver.Goals as goal

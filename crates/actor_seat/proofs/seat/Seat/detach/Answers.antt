@@ -1,10 +1,5 @@
-use Rattle.std.proofs.Common.{◌<◌, ap, length, refl, subst, sym, ◌∙◌, arith}
-use Rattle.std.specs.Prelude.{Err}
+use Rattle.actor_seat.proofs.Names.{ap, arith, desk_of, DetachesOn, Err, IsSeated, length, out_at, refl, subst, sym, with_out, ◌<◌, ◌∙◌}
 use Rattle.base_words.specs.declared.names.TicketError.TheVariants.{Unknown}
-use Rattle.actor_core.specs.Recorded.{desk_of}
-use Rattle.link_ring.specs.Ends.{out_at}
-use Rattle.link_ring.specs.Lending.{with_out}
-use Rattle.actor_seat.specs.Seats.{DetachesOn, IsSeated}
 use Rattle.actor_seat.proofs.Adding.{detaches_add}
 use Rattle.actor_seat.proofs.Along.{stays_same}
 use Rattle.actor_seat.proofs.LentOut.{LendsOut, out_beside, out_lane, out_seated, out_stays, out_uses}

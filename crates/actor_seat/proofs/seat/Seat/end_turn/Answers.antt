@@ -1,8 +1,4 @@
-use Rattle.std.proofs.Common.{subst, sym}
-use Rattle.actor_core.specs.OwedPolls.{seen_by}
-use Rattle.actor_core.proofs.OwedSteps.{ends_keep}
-use Rattle.link_ring.specs.declared.ring_out.Sending.{Sending}
-use Rattle.actor_seat.specs.Linked.{IsLinked, StaysLinked}
+use Rattle.actor_seat.proofs.Names.{ends_keep, IsLinked, seen_by, Sending, StaysLinked, subst, sym}
 use Rattle.actor_seat.proofs.AddedTurns.{adds_ended}
 use Rattle.actor_seat.proofs.Kept.{LeavesEnds, kept_linked, kept_seated, kept_stays}
 use Rattle.actor_seat.proofs.seat.Seat.end_turn.Given.{Over}

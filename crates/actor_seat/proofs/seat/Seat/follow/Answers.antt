@@ -1,5 +1,4 @@
-use Rattle.std.proofs.Common.{subst}
-use Rattle.actor_seat.specs.Linked.{StaysLinked}
+use Rattle.actor_seat.proofs.Names.{StaysLinked, subst}
 use Rattle.actor_seat.proofs.AddedTurns.{adds_followed}
 use Rattle.actor_seat.proofs.Kept.{LeavesEnds, kept_seated, kept_stays}
 use Rattle.actor_seat.proofs.seat.Seat.follow.Given.{Over}

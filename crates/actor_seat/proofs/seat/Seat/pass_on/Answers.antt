@@ -1,6 +1,4 @@
-use Rattle.std.proofs.Common.{◌≡◌, ap, subst, sym}
-use Rattle.actor_core.specs.Recorded.{RecordedView}
-use Rattle.actor_seat.specs.Linked.{IsLinked, LinkedView}
+use Rattle.actor_seat.proofs.Names.{ap, IsLinked, LinkedView, RecordedView, subst, sym, ◌≡◌}
 use Rattle.actor_seat.proofs.Passed.{passed_linked, passed_seated, same_notes}
 use Rattle.actor_seat.proofs.seat.Seat.pass_on.Given.{Over}
 use Rattle.actor_seat.proofs.seat.Seat.pass_on.Goals as goal

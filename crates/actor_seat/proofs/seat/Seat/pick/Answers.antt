@@ -1,13 +1,5 @@
-use Rattle.std.proofs.Common.{◌≡◌, ap, subst, sym, ◌∙◌, arith}
-use Rattle.std.specs.Prelude.{Ok}
+use Rattle.actor_seat.proofs.Names.{ap, arith, ends_same, HasOwedPolls, IsLinked, Ok, owed_back, picks_keep, seen_by, Sending, StaysLinked, subst, sym, taken_of, ◌∙◌, ◌≡◌}
 use Rattle.core_core.specs.declared.turn.Turn.TheVariants.{Back}
-use Rattle.actor_core.specs.Owed.{owed_back}
-use Rattle.actor_core.specs.OwedPolls.{HasOwedPolls, seen_by}
-use Rattle.actor_core.proofs.OwedSteps.{picks_keep}
-use Rattle.link_ring.specs.declared.ring_out.Sending.{Sending}
-use Rattle.link_ring.proofs.Using.{ends_same}
-use Rattle.actor_seat.specs.Linked.{IsLinked, StaysLinked}
-use Rattle.actor_seat.specs.Seats.{taken_of}
 use Rattle.actor_seat.proofs.Along.{sees_same}
 use Rattle.actor_seat.proofs.HandedBack.{stay_owing}
 use Rattle.actor_seat.proofs.Kept.{kept_seated}

@@ -1,8 +1,4 @@
-use Rattle.std.proofs.Common.{◌<◌, length, sym, ap, subst, arith}
-use Rattle.actor_core.specs.Turns.{IsOut, IsOutUnder, Settles}
-use Rattle.actor_core.specs.Owed.{outcome_settled}
-use Rattle.link_ring.specs.Lending.{with_in}
-use Rattle.actor_seat.specs.Linked.{StaysLinked}
+use Rattle.actor_seat.proofs.Names.{ap, arith, IsOut, IsOutUnder, length, outcome_settled, Settles, StaysLinked, subst, sym, with_in, ◌<◌}
 use Rattle.actor_seat.proofs.LentIn.{LeavesIn, LendsIn, its_in, settled_seated, settled_stays}
 use Rattle.actor_seat.proofs.Seen.{gives_seen}
 use Rattle.actor_seat.proofs.seat.Seat.settle.Given.{Over}

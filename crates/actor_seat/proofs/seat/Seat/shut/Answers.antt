@@ -1,9 +1,4 @@
-use Rattle.std.proofs.Common.{◌<◌, ◌∙◌, length, ap, subst, sym, arith}
-use Rattle.std.specs.Prelude.{IsSome}
-use Rattle.base_words.specs.Closing.{core_mode, final_count}
-use Rattle.link_ring.specs.Lending.{with_in}
-use Rattle.actor_seat.specs.Linked.{IsLinked}
-use Rattle.actor_seat.specs.Steps.{ShutsGate}
+use Rattle.actor_seat.proofs.Names.{ap, arith, core_mode, final_count, IsLinked, IsSome, length, ShutsGate, subst, sym, with_in, ◌<◌, ◌∙◌}
 use Rattle.actor_seat.proofs.LentIn.{LeavesIn, LendsIn, its_in, shuts_does, shuts_linked, shuts_seated}
 use Rattle.actor_seat.proofs.seat.Seat.shut.Given.{Over}
 use Rattle.actor_seat.proofs.seat.Seat.shut.Goals as goal

@@ -1,8 +1,4 @@
-use Rattle.std.proofs.Common.{◌<◌, length, sym, ap, subst, arith}
-use Rattle.actor_core.specs.Recorded.{desk_of}
-use Rattle.actor_desk.specs.Submissions.{numbered}
-use Rattle.link_ring.specs.Lending.{with_out}
-use Rattle.actor_seat.specs.Seats.{IsSeated, SubmitsOn}
+use Rattle.actor_seat.proofs.Names.{ap, arith, desk_of, IsSeated, length, numbered, SubmitsOn, subst, sym, with_out, ◌<◌}
 use Rattle.actor_seat.proofs.Adding.{submits_add}
 use Rattle.actor_seat.proofs.LentOut.{LendsOut, out_beside, out_lane, out_seated, out_sends, out_stays, out_uses, sends_seen}
 use Rattle.actor_seat.proofs.seat.Seat.submit.Given.{Over}

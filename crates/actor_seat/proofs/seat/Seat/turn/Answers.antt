@@ -1,6 +1,5 @@
-use Rattle.std.proofs.Common.{sym, ◌∙◌, ap, subst}
+use Rattle.actor_seat.proofs.Names.{ap, IsLinked, LinkedView, subst, sym, ◌∙◌}
 use Rattle.actor_core.specs.WholeTurns as made
-use Rattle.actor_seat.specs.Linked.{IsLinked, LinkedView}
 use Rattle.actor_seat.proofs.TurnOfEnds.{TurnsLinked, among, pair, turns_linked}
 use Rattle.actor_seat.proofs.seat.Seat.turn.Given.{Over}
 use Rattle.actor_seat.proofs.seat.Seat.turn.Goals as goal

@@ -1,14 +1,6 @@
-use Rattle.std.proofs.Common.{◌≡◌, ℕ, ◌<◌, ◌≤◌, false, None, refl, sym, ◌∙◌, ap, subst, arith, length, length-set}
-use Rattle.std.specs.Prelude.{Bool, List, slice_index_or, slice_set}
-use Rattle.std.proofs.lemmas.List.Elements.{All-set}
-use Rattle.base_words.specs.declared.names.JobId.{JobId}
-use Rattle.core_queues.specs.Queues.{queue_count, mode_of}
-use Rattle.core_core.specs.declared.tally.Tally.{Tally}
-use Rattle.core_queues.specs.Slips.{queues_alone}
-use Rattle.core_core.specs.State.{CoreView, inside_count, is_working}
-use Rattle.core_core.specs.Bursts.{queue_open}
-use Rattle.base_words.specs.Names.{is_number}
-use Rattle.core_core.specs.Inside.{core_view, job_out, unsettled_count, FitsTurns}
+use Rattle.core_core.proofs.Names.{All-set, ap, arith, core_view, CoreView, false, FitsTurns, inside_count, is_number, is_working, job_out, JobId, length, length-set, mode_of, None, queue_count, queue_open, queues_alone, refl}
+use Rattle.core_core.proofs.Names.{slice_index_or, slice_set, subst, sym, Tally, unsettled_count, ℕ, ◌<◌, ◌∙◌, ◌≡◌, ◌≤◌}
+use Rattle.std.specs.Prelude.{Bool, List}
 use Rattle.core_core.proofs.Listed.{LacksQueue-from_none}
 use Rattle.core_core.proofs.Fits.{placed_fits, IsBounded-from_turns}
 use Rattle.core_core.proofs.Entered.{is_placed, IsCore-entered}

@@ -1,9 +1,5 @@
-use Rattle.std.proofs.Common.{◌≡◌, ◌^◌, ◌<◌, [], sym, ap, ◌∙◌, arith}
+use Rattle.core_core.proofs.Names.{ap, arith, core_view, CoreView, job_out, queues_alone, sym, true≢false, [], ◌<◌, ◌^◌, ◌∙◌, ◌≡◌}
 use Rattle.std.specs.Prelude.{◌-◌}
-use Rattle.std.proofs.lemmas.Bool.{true≢false}
-use Rattle.core_queues.specs.Slips.{queues_alone}
-use Rattle.core_core.specs.State.{CoreView}
-use Rattle.core_core.specs.Inside.{core_view, job_out}
 use Rattle.core_core.proofs.Held.{held_none, free_if_not_held, busy_if_held}
 use Rattle.core_core.proofs.Picking.{idle_if_no_key, work_if_key}
 use Rattle.core_core.proofs.one_core.Core.ahead.Goals as goal

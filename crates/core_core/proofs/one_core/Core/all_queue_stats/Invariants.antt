@@ -1,7 +1,4 @@
-use Rattle.std.proofs.Common.{◌≡◌, ℕ, ◌<◌, ◌≤◌, Some, slice_get}
-use Rattle.arrayvec.specs.ArrayVec.{array_vec_len}
-use Rattle.core_queues.specs.Queues.{queue_count}
-use Rattle.core_core.specs.Figures.{queue_stats}
+use Rattle.core_core.proofs.Names.{array_vec_len, queue_count, queue_stats, slice_get, Some, ℕ, ◌<◌, ◌≡◌, ◌≤◌}
 use Rattle.core_core.proofs.one_core.Core.all_queue_stats.Given as goal
 
 abbrev pub invariant-loop-number : goal.invariant-loop-number

@@ -1,6 +1,4 @@
-use Rattle.std.proofs.Common.{Some, refl, sym, ◌∙◌}
-use Rattle.core_queues.specs.Slips.{queues_alone}
-use Rattle.core_core.specs.Inside.{core_view, job_out}
+use Rattle.core_core.proofs.Names.{core_view, job_out, queues_alone, refl, Some, sym, ◌∙◌}
 use Rattle.core_core.proofs.Closings.{IsCore-closed}
 use Rattle.core_core.proofs.Fits.{IsBounded-from_turns}
 use Rattle.core_core.proofs.one_core.Core.close.Goals as goal

@@ -1,9 +1,4 @@
-use Rattle.std.proofs.Common.{◌<◌, refl, sym, ◌∙◌, ap, subst, arith}
-use Rattle.base_words.specs.Closing.{closes}
-use Rattle.core_queues.specs.Queues.{queue_count, mode_of}
-use Rattle.core_queues.specs.Slips.{queues_alone}
-use Rattle.core_core.specs.State.{CoreView}
-use Rattle.core_core.specs.Inside.{core_view, job_out}
+use Rattle.core_core.proofs.Names.{ap, arith, closes, core_view, CoreView, job_out, mode_of, queue_count, queues_alone, refl, subst, sym, ◌<◌, ◌∙◌}
 use Rattle.core_core.proofs.Counting.{KeepsCounts-closes, IsListed-same}
 use Rattle.core_core.proofs.Fits.{IsBounded-from_turns}
 use Rattle.core_core.proofs.Outcomes.{past_if_not}

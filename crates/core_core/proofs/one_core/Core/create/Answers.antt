@@ -1,12 +1,5 @@
-use Rattle.std.proofs.Common.{◌≡◌, List, [], ◌∷◌, None, Err, refl, sym, ◌∙◌, ap, subst, arith, length, length-append}
-use Rattle.std.specs.Prelude.{slice_index_or}
-use Rattle.std.proofs.lemmas.List.Elements.{All-push}
-use Rattle.core_queues.specs.Queues.{queue_count, AddsQueue}
-use Rattle.core_core.specs.declared.tally.Tally.{Tally}
-use Rattle.core_queues.specs.Slips.{queues_alone}
-use Rattle.core_core.specs.State.{CoreView, no_tally}
-use Rattle.core_core.specs.Deliveries.{CreatesQueue}
-use Rattle.core_core.specs.Inside.{core_view, job_out, unsettled_count, FitsTurns}
+use Rattle.core_core.proofs.Names.{AddsQueue, All-push, ap, arith, core_view, CoreView, CreatesQueue, Err, FitsTurns, job_out, length, length-append, List, no_tally, None, queue_count, queues_alone, refl, slice_index_or, subst, sym, Tally}
+use Rattle.core_core.proofs.Names.{unsettled_count, [], ◌∙◌, ◌∷◌, ◌≡◌}
 use Rattle.core_core.proofs.Fits.{no_tally_fits, IsBounded-from_turns}
 use Rattle.core_core.proofs.Outcomes.{creates_nothing}
 use Rattle.core_core.proofs.Parts.{IsPollable-same}

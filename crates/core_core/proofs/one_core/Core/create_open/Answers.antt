@@ -1,5 +1,4 @@
-use Rattle.std.proofs.Common.{subst, arith}
-use Rattle.core_core.specs.Deliveries.{CreatesQueue}
+use Rattle.core_core.proofs.Names.{arith, CreatesQueue, subst}
 use Rattle.core_core.proofs.Outcomes.{same_cores, delivers_created}
 use Rattle.core_core.proofs.one_core.Core.create_open.Goals as goal
 

@@ -1,6 +1,4 @@
-use Rattle.std.proofs.Common.{sym, subst}
-use Rattle.base_jobs.specs.Ready.{HasReadyJob}
-use Rattle.core_core.specs.Deliveries.{Delivers}
+use Rattle.core_core.proofs.Names.{Delivers, HasReadyJob, subst, sym}
 use Rattle.core_core.proofs.one_core.Core.deliver.Goals as goal
 
 pub deliver_noted-requires : goal.deliver_noted-requires

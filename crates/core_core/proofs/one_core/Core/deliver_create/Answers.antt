@@ -1,4 +1,4 @@
-use Rattle.std.proofs.Common.{◌∙◌, sym}
+use Rattle.core_core.proofs.Names.{sym, ◌∙◌}
 use Rattle.core_core.proofs.Outcomes.{none_if_not, not_none}
 use Rattle.core_core.proofs.one_core.Core.deliver_create.Goals as goal
 

@@ -1,4 +1,4 @@
-use Rattle.std.proofs.Common.{refl, sym, ◌∙◌}
+use Rattle.core_core.proofs.Names.{refl, sym, ◌∙◌}
 use Rattle.core_core.proofs.Closings.{exists_if_not_refused, open_if_not_refused}
 use Rattle.core_core.proofs.one_core.Core.deliver_job.Goals as goal
 

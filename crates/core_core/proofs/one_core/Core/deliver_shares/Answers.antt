@@ -1,11 +1,4 @@
-use Rattle.std.proofs.Common.{◌<◌, ◌≤◌, refl, sym, ◌∙◌, ap, subst, arith, length-set}
-use Rattle.std.specs.Prelude.{slice_set}
-use Rattle.core_queues.specs.Queues.{queue_count}
-use Rattle.core_queues.specs.Slips.{queues_alone}
-use Rattle.base_words.specs.declared.names.JobId.{JobId}
-use Rattle.core_core.specs.Senders.{SendersView}
-use Rattle.core_core.specs.State.{CoreView}
-use Rattle.core_core.specs.Inside.{core_view, job_out}
+use Rattle.core_core.proofs.Names.{ap, arith, core_view, CoreView, job_out, JobId, length-set, queue_count, queues_alone, refl, SendersView, slice_set, subst, sym, ◌<◌, ◌∙◌, ◌≤◌}
 use Rattle.core_core.proofs.Fits.{IsBounded-from_turns}
 use Rattle.core_core.proofs.Outcomes.{past_if_not}
 use Rattle.core_core.proofs.Parts.{IsPollable-same}

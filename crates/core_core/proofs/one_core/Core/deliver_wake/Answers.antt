@@ -1,9 +1,6 @@
-use Rattle.std.proofs.Common.{◌≡◌, ℕ, true, false, [], ◌∷◌, ◌∙◌, ap, subst}
+use Rattle.core_core.proofs.Names.{ap, CoreView, false, job_at, subst, true, Wakes, ℕ, [], ◌∙◌, ◌∷◌, ◌≡◌}
 use Rattle.base_words.specs.declared.note.Note.TheVariants as notes
 use Rattle.base_words.specs.declared.order.Answer.TheVariants as answers
-use Rattle.base_words.specs.Commands.{job_at}
-use Rattle.core_core.specs.State.{CoreView}
-use Rattle.core_core.specs.Waking.{Wakes}
 use Rattle.core_core.proofs.Outcomes.{wakes_counted}
 use Rattle.core_core.proofs.one_core.Core.deliver_wake.Goals as goal
 

@@ -1,8 +1,4 @@
-use Rattle.std.proofs.Common.{◌≡◌, ◌≤◌}
-use Rattle.std.specs.Prelude.{nat_lt}
-use Rattle.core_queues.specs.Queues.{queue_count}
-use Rattle.core_core.specs.State.{IsBounded}
-use Rattle.core_core.specs.Closing.{EndsParks}
+use Rattle.core_core.proofs.Names.{EndsParks, IsBounded, nat_lt, queue_count, ◌≡◌, ◌≤◌}
 use Rattle.core_core.proofs.one_core.Core.end_all_parks.Given as goal
 
 -- the parks of the queues below this number ended

@@ -1,4 +1,4 @@
-use Rattle.std.proofs.Common.{refl}
+use Rattle.core_core.proofs.Names.{refl}
 use Rattle.core_core.proofs.one_core.Core.end_parks_for.Goals as goal
 
 pub returns-in-Finish-clause-ends : goal.returns-in-Finish-clause-ends

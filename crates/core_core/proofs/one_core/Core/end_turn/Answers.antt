@@ -1,14 +1,5 @@
-use Rattle.std.proofs.Common.{◌≡◌, ℕ, ◌<◌, true, false, length, Option, None, refl, sym, ◌∙◌, ap, subst, arith}
-use Rattle.std.proofs.lemmas.Bool.{true≢false}
-use Rattle.std.specs.Prelude.{IfSome, is_some, slice_index_or, slice_set}
-use Rattle.base_words.specs.Work.{number_if}
-use Rattle.core_queues.specs.Queues.{queue_count}
-use Rattle.core_queues.specs.Slips.{queues_alone}
-use Rattle.core_core.specs.declared.bursts.OpenTurn.{OpenTurn}
-use Rattle.core_core.specs.declared.tally.Tally.{Tally}
-use Rattle.core_core.specs.State.{CoreView, tally_of}
-use Rattle.core_core.specs.Bursts.{may_go_on}
-use Rattle.core_core.specs.Inside.{core_view, job_out, runtime_listed, unsettled_count, FitsTurns}
+use Rattle.core_core.proofs.Names.{ap, arith, core_view, CoreView, false, FitsTurns, IfSome, is_some, job_out, length, may_go_on, None, number_if, OpenTurn, Option, queue_count, queues_alone, refl, runtime_listed, slice_index_or, slice_set}
+use Rattle.core_core.proofs.Names.{subst, sym, Tally, tally_of, true, true≢false, unsettled_count, ℕ, ◌<◌, ◌∙◌, ◌≡◌}
 use Rattle.core_core.proofs.Charging.{tally_read}
 use Rattle.core_core.proofs.Fits.{IsBounded-from_turns}
 use Rattle.core_core.proofs.FurtherTurn.{turn_exists}

@@ -1,11 +1,4 @@
-use Rattle.std.proofs.Common.{◌≡◌, ◌<◌, List, length, None, sym, ◌∙◌, ap, subst, arith}
-use Rattle.std.specs.Prelude.{slice_index_or, slice_set}
-use Rattle.core_queues.specs.Queues.{shares_of}
-use Rattle.core_queues.specs.Slips.{queues_alone}
-use Rattle.core_core.specs.declared.tally.Tally.{Tally}
-use Rattle.core_core.specs.State.{CoreView, no_tally}
-use Rattle.core_core.specs.Bursts.{lasted}
-use Rattle.core_core.specs.Inside.{core_view, job_out}
+use Rattle.core_core.proofs.Names.{ap, arith, core_view, CoreView, job_out, lasted, length, List, no_tally, None, queues_alone, shares_of, slice_index_or, slice_set, subst, sym, Tally, ◌<◌, ◌∙◌, ◌≡◌}
 use Rattle.core_core.proofs.Charging.{charge_written, charged_single}
 use Rattle.core_core.proofs.Counting.{some_inside}
 use Rattle.core_core.proofs.one_core.Core.finish_charged.Goals as goal

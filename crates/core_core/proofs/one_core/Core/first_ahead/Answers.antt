@@ -1,10 +1,4 @@
-use Rattle.std.proofs.Common.{◌≡◌, Option, Some, None, false, refl, sym, ap, subst, ◌∙◌}
-use Rattle.std.specs.Prelude.{is_some}
-use Rattle.std.proofs.lemmas.Bool.{true≢false}
-use Rattle.core_queues.specs.Slips.{queues_alone}
-use Rattle.core_queues.specs.Queues.{waiting_of}
-use Rattle.core_core.specs.State.{CoreView}
-use Rattle.core_core.specs.Inside.{core_view, job_out}
+use Rattle.core_core.proofs.Names.{ap, core_view, CoreView, false, is_some, job_out, None, Option, queues_alone, refl, Some, subst, sym, true≢false, waiting_of, ◌∙◌, ◌≡◌}
 use Rattle.core_core.proofs.Entries.{some_from_is_any}
 use Rattle.core_core.proofs.Held.{held_none}
 use Rattle.core_core.proofs.Picking.{exists_if_waiting, first_waits, first_runtime, first_is_next}

@@ -1,11 +1,4 @@
-use Rattle.std.proofs.Common.{◌≡◌, Option, true, refl, sym, subst}
-use Rattle.std.proofs.lemmas.Bool.{true≢false}
-use Rattle.std.specs.Prelude.{IfSome, is_some}
-use Rattle.core_queues.specs.Slips.{queues_alone}
-use Rattle.core_core.specs.declared.bursts.OpenTurn.{OpenTurn}
-use Rattle.core_core.specs.Bursts.{GoesOn}
-use Rattle.core_core.specs.Inside.{core_view, job_out}
-use Rattle.core_core.specs.State.{CoreView}
+use Rattle.core_core.proofs.Names.{core_view, CoreView, GoesOn, IfSome, is_some, job_out, OpenTurn, Option, queues_alone, refl, subst, sym, true, true≢false, ◌≡◌}
 use Rattle.core_core.proofs.Fits.{IsBounded-from_turns}
 use Rattle.core_core.proofs.FurtherTurn.{follows_ahead, ready_going}
 use Rattle.core_core.proofs.one_core.Core.follow.Goals as goal

@@ -1,8 +1,4 @@
-use Rattle.std.proofs.Common.{◌≤◌, Some, sym, ◌∙◌, ap, subst, arith}
-use Rattle.std.specs.Prelude.{slice_set}
-use Rattle.core_queues.specs.Slips.{queues_alone}
-use Rattle.core_core.specs.State.{CoreView}
-use Rattle.core_core.specs.Inside.{core_view, job_out}
+use Rattle.core_core.proofs.Names.{ap, arith, core_view, CoreView, job_out, queues_alone, slice_set, Some, subst, sym, ◌∙◌, ◌≤◌}
 use Rattle.core_core.proofs.Closings.{IsCore-closed}
 use Rattle.core_core.proofs.Fits.{IsBounded-from_turns}
 use Rattle.core_core.proofs.one_core.Core.gate_shut.Goals as goal

@@ -1,9 +1,4 @@
-use Rattle.std.proofs.Common.{◌≡◌, ◌+◌, ◌<◌, List, length, None, ◌∙◌, ap, subst, arith}
-use Rattle.std.specs.Prelude.{slice_index_or, slice_set}
-use Rattle.core_queues.specs.Slips.{queues_alone}
-use Rattle.core_core.specs.declared.tally.Tally.{Tally}
-use Rattle.core_core.specs.State.{CoreView}
-use Rattle.core_core.specs.Inside.{core_view, job_out}
+use Rattle.core_core.proofs.Names.{ap, arith, core_view, CoreView, job_out, length, List, None, queues_alone, slice_index_or, slice_set, subst, Tally, ◌+◌, ◌<◌, ◌∙◌, ◌≡◌}
 use Rattle.core_core.proofs.Charging.{tally_read}
 use Rattle.core_core.proofs.Counting.{some_inside}
 use Rattle.core_core.proofs.one_core.Core.hand_back.Goals as goal

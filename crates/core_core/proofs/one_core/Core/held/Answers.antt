@@ -1,6 +1,4 @@
-use Rattle.std.proofs.Common.{arith}
-use Rattle.core_queues.specs.Slips.{queues_alone}
-use Rattle.core_queues.proofs.QueuesLemmas.{held_of-le-held_count}
+use Rattle.core_core.proofs.Names.{arith, held_of-le-held_count, queues_alone}
 use Rattle.core_core.proofs.one_core.Core.held.Goals as goal
 
 pub overflow_add-result : goal.overflow_add-result

@@ -1,6 +1,4 @@
-use Rattle.std.proofs.lemmas.Bool.{eqb-true, eq-eqb}
-use Rattle.core_queues.specs.Slips.{queues_alone}
-use Rattle.core_core.specs.Inside.{core_view, job_out}
+use Rattle.core_core.proofs.Names.{core_view, eq-eqb, eqb-true, job_out, queues_alone}
 use Rattle.core_core.proofs.Closings.{drained_if, none_if_drained}
 use Rattle.core_core.proofs.one_core.Core.is_drained.Goals as goal
 

@@ -1,4 +1,4 @@
-use Rattle.std.proofs.Common.{refl}
+use Rattle.core_core.proofs.Names.{refl}
 use Rattle.core_core.proofs.one_core.Core.is_out_woken.Goals as goal
 
 pub returns : goal.returns

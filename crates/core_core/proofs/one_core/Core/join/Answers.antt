@@ -1,10 +1,4 @@
-use Rattle.std.proofs.Common.{◌≡◌, ◌<◌, ◌≤◌, true, false, None, refl, sym, ◌∙◌, ap, subst, arith, length-set}
-use Rattle.std.specs.Prelude.{slice_set}
-use Rattle.base_words.specs.declared.names.JobId.{JobId}
-use Rattle.core_queues.specs.Queues.{queue_count, mode_of}
-use Rattle.core_queues.specs.Slips.{queues_alone}
-use Rattle.core_core.specs.State.{CoreView, inside_count, is_any, is_working}
-use Rattle.core_core.specs.Inside.{core_view, job_out}
+use Rattle.core_core.proofs.Names.{ap, arith, core_view, CoreView, false, inside_count, is_any, is_working, job_out, JobId, length-set, mode_of, None, queue_count, queues_alone, refl, slice_set, subst, sym, true, ◌<◌, ◌∙◌, ◌≡◌, ◌≤◌}
 use Rattle.core_core.proofs.Entered.{stays_placed}
 use Rattle.core_core.proofs.Entries.{is_any-push}
 use Rattle.core_core.proofs.Fits.{IsBounded-from_turns}

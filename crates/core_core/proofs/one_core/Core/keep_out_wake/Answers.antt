@@ -1,8 +1,4 @@
-use Rattle.std.proofs.Common.{◌≡◌, true, refl, ap, sym, subst}
-use Rattle.core_queues.specs.Slips.{queues_alone}
-use Rattle.core_core.specs.State.{CoreView, JobOut}
-use Rattle.core_core.specs.Inside.{core_view, job_out}
-use Rattle.core_core.specs.Waking.{is_out}
+use Rattle.core_core.proofs.Names.{ap, core_view, CoreView, is_out, job_out, JobOut, queues_alone, refl, subst, sym, true, ◌≡◌}
 use Rattle.core_core.proofs.Fits.{IsBounded-from_turns}
 use Rattle.core_core.proofs.Woken.{name_if_out, IsCore-out_woken}
 use Rattle.core_core.proofs.one_core.Core.keep_out_wake.Goals as goal

@@ -1,11 +1,6 @@
-use Rattle.std.proofs.Common.{◌≡◌, ℕ, ◌<◌, Bool, true, false, None, refl, sym, ◌∙◌, ap, subst, arith}
-use Rattle.std.specs.Prelude.{◌-◌, slice_set, slice_index_or}
-use Rattle.core_queues.specs.Queues.{queue_count, waiting_of}
-use Rattle.core_queues.specs.Slips.{queues_alone}
-use Rattle.core_core.specs.State.{CoreView, is_any}
-use Rattle.core_core.specs.Inside.{core_view, job_out, runtime_listed, IsCore, FitsTurns}
-use Rattle.core_core.specs.Relisted.{slips_after, keys_after}
-use Rattle.core_core.specs.Steps.{IsOutOf}
+use Rattle.core_core.proofs.Names.{ap, arith, Bool, core_view, CoreView, false, FitsTurns, is_any, IsCore, IsOutOf, job_out, keys_after, None, queue_count, queues_alone, refl, runtime_listed, slice_index_or, slice_set, slips_after, subst}
+use Rattle.core_core.proofs.Names.{sym, true, waiting_of, ℕ, ◌<◌, ◌∙◌, ◌≡◌}
+use Rattle.std.specs.Prelude.{◌-◌}
 use Rattle.core_core.proofs.Counting.{some_inside}
 use Rattle.core_core.proofs.Entries.{entry_of}
 use Rattle.core_core.proofs.Fits.{IsBounded-from_turns}

@@ -1,8 +1,4 @@
-use Rattle.std.proofs.Common.{[], ◌∷◌, ◌++◌, length, ◌∙◌, ap, arith}
-use Rattle.std.proofs.lemmas.List.{length-replicate}
-use Rattle.core_timeline.specs.Tree.{KeyTree}
-use Rattle.core_core.specs.Senders.{SendersView}
-use Rattle.core_core.specs.State.{no_tally}
+use Rattle.core_core.proofs.Names.{ap, arith, KeyTree, length, length-replicate, no_tally, SendersView, [], ◌++◌, ◌∙◌, ◌∷◌}
 use Rattle.core_core.proofs.Opening.{IsCore-opened}
 use Rattle.core_core.proofs.one_core.Core.open_at.Goals as goal
 

@@ -1,12 +1,5 @@
-use Rattle.std.proofs.Common.{◌≡◌, ℕ, ◌<◌, true, false, length, Option, Some, None, refl, sym, ◌∙◌, ap, subst, arith}
-use Rattle.std.specs.Prelude.{is_some, slice_index_or, slice_set}
-use Rattle.base_words.specs.Work.{number_if}
-use Rattle.core_queues.specs.Queues.{queue_count, waiting_of, shares_of}
-use Rattle.core_queues.specs.Slips.{queues_alone}
-use Rattle.core_core.specs.declared.tally.Tally.{Tally}
-use Rattle.core_core.specs.State.{CoreView, JobOut, no_tally, is_any, out_count}
-use Rattle.core_core.specs.Inside.{core_view, job_out, runtime_listed, IsCore, unsettled_count, FitsTurns}
-use Rattle.core_core.specs.Relisted.{slips_after, keys_after}
+use Rattle.core_core.proofs.Names.{ap, arith, core_view, CoreView, false, FitsTurns, is_any, is_some, IsCore, job_out, JobOut, keys_after, length, no_tally, None, number_if, Option, out_count, queue_count, queues_alone, refl}
+use Rattle.core_core.proofs.Names.{runtime_listed, shares_of, slice_index_or, slice_set, slips_after, Some, subst, sym, Tally, true, unsettled_count, waiting_of, ℕ, ◌<◌, ◌∙◌, ◌≡◌}
 use Rattle.core_core.proofs.Fits.{IsBounded-from_turns}
 use Rattle.core_core.proofs.Charging.{charge_written, charge_fits, charged_single, lasted_single}
 use Rattle.core_core.proofs.Counting.{some_inside}

@@ -1,8 +1,4 @@
-use Rattle.std.proofs.Common.{◌≡◌, true, sym, ap, subst, ◌∙◌}
-use Rattle.std.specs.Prelude.{is_some}
-use Rattle.core_queues.specs.Slips.{queues_alone}
-use Rattle.core_core.specs.State.{CoreView, JobOut}
-use Rattle.core_core.specs.Inside.{core_view, job_out}
+use Rattle.core_core.proofs.Names.{ap, core_view, CoreView, is_some, job_out, JobOut, queues_alone, subst, sym, true, ◌∙◌, ◌≡◌}
 use Rattle.core_core.proofs.SettledInTurn.{parks_in_turn}
 use Rattle.core_core.proofs.one_core.Core.park_in_turn.Goals as goal
 

@@ -1,7 +1,4 @@
-use Rattle.std.proofs.Common.{◌≡◌, [], refl, sym, ◌∙◌, arith}
-use Rattle.core_queues.specs.Slips.{queues_alone}
-use Rattle.core_core.specs.Inside.{core_view, job_out}
-use Rattle.std.proofs.lemmas.Bool.{true≢false}
+use Rattle.core_core.proofs.Names.{arith, core_view, job_out, queues_alone, refl, sym, true≢false, [], ◌∙◌, ◌≡◌}
 use Rattle.core_core.proofs.Fits.{IsBounded-from_turns}
 use Rattle.core_core.proofs.Held.{held_none, free_if_not_held, busy_if_held}
 use Rattle.core_core.proofs.Picking.{idle_if_no_key, work_if_key}

@@ -1,8 +1,5 @@
-use Rattle.std.proofs.Common.{ℕ, Bool, [], ◌∷◌, sym, ap, subst, ◌∙◌}
+use Rattle.core_core.proofs.Names.{ap, Bool, CoreView, is_some, subst, sym, TakesOut, ℕ, [], ◌∙◌, ◌∷◌}
 use Rattle.base_words.specs.declared.note.Note.TheVariants as notes
-use Rattle.std.specs.Prelude.{is_some}
-use Rattle.core_core.specs.State.{CoreView}
-use Rattle.core_core.specs.Turns.{TakesOut}
 use Rattle.core_core.proofs.Closings.{return_reason-taken, hands_back}
 use Rattle.core_core.proofs.one_core.Core.pick_first.Goals as goal
 

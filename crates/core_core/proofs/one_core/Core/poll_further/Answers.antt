@@ -1,14 +1,5 @@
-use Rattle.std.proofs.Common.{◌≡◌, ℕ, ◌+◌, ◌-◌, ◌^◌, ◌<◌, min, Option, Some, sym, ◌∙◌, ap, subst, arith, length}
-use Rattle.std.specs.Prelude.{IfSome, slice_index_or, slice_set}
-use Rattle.base_words.specs.Work.{number_if}
-use Rattle.base_jobs.specs.Steps.{is_done_step}
-use Rattle.core_queues.specs.Queues.{queue_count, waiting_of, shares_of}
-use Rattle.core_queues.specs.Slips.{queues_alone}
-use Rattle.core_core.specs.declared.bursts.OpenTurn.{OpenTurn}
-use Rattle.core_core.specs.declared.tally.Tally.{Tally}
-use Rattle.core_core.specs.State.{CoreView, tally_of}
-use Rattle.core_core.specs.Bursts.{polled_again, longer, GoesOn}
-use Rattle.core_core.specs.Inside.{core_view, job_out}
+use Rattle.core_core.proofs.Names.{ap, arith, core_view, CoreView, GoesOn, IfSome, is_done_step, job_out, length, longer, min, number_if, OpenTurn, Option, polled_again, queue_count, queues_alone, shares_of, slice_index_or, slice_set, Some}
+use Rattle.core_core.proofs.Names.{subst, sym, Tally, tally_of, waiting_of, ℕ, ◌+◌, ◌-◌, ◌<◌, ◌^◌, ◌∙◌, ◌≡◌}
 use Rattle.core_core.proofs.Charging.{tally_read}
 use Rattle.core_core.proofs.FurtherTurn.{goes_on_has, turn_exists, HasFollowed, IsCore-further_as, IsBounded-further, TurnsFurther-polled}
 use Rattle.core_core.proofs.InTurn.{counted_in_turn}

@@ -1,6 +1,4 @@
-use Rattle.std.proofs.Common.{◌≡◌, sym, ◌∙◌}
-use Rattle.core_core.specs.State.{JobOut}
-use Rattle.core_core.specs.Settling.{stays}
+use Rattle.core_core.proofs.Names.{JobOut, stays, sym, ◌∙◌, ◌≡◌}
 use Rattle.core_core.proofs.PollsSettled.{fact_of_out}
 use Rattle.core_core.proofs.one_core.Core.rest_out.Goals as goal
 

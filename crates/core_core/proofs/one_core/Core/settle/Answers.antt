@@ -1,8 +1,4 @@
-use Rattle.std.proofs.Common.{sym, ◌∙◌, ap, subst}
-use Rattle.std.specs.Prelude.{unwrap_or}
-use Rattle.base_jobs.specs.Steps.{is_done_step, IfDone, IfUndone}
-use Rattle.std.proofs.Common.{◌≡◌}
-use Rattle.core_core.specs.State.{JobOut}
+use Rattle.core_core.proofs.Names.{ap, IfDone, IfUndone, is_done_step, JobOut, subst, sym, unwrap_or, ◌∙◌, ◌≡◌}
 use Rattle.core_core.proofs.PollsSettled.{settles_yield, settles_rest, settles_done, fact_of_out, answers_out, out_if_same, yields_no_answer, rests_no_answer}
 use Rattle.core_core.proofs.one_core.Core.settle.Goals as goal
 

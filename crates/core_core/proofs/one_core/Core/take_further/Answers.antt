@@ -1,12 +1,4 @@
-use Rattle.std.proofs.Common.{Some, drop, refl, sym, ap, subst}
-use Rattle.std.specs.Prelude.{All}
-use Rattle.std.proofs.lemmas.List.Elements.{All-head}
-use Rattle.base_jobs.specs.Ready.{IsReady}
-use Rattle.core_queues.specs.Queues.{waiting_of, ChangesLine}
-use Rattle.core_queues.specs.Slips.{queues_alone}
-use Rattle.core_core.specs.State.{CoreView}
-use Rattle.core_core.specs.Bursts.{polled_again, GoesOn, FollowsOut}
-use Rattle.core_core.specs.Inside.{core_view, job_out}
+use Rattle.core_core.proofs.Names.{All, All-head, ap, ChangesLine, core_view, CoreView, drop, FollowsOut, GoesOn, IsReady, job_out, polled_again, queues_alone, refl, Some, subst, sym, waiting_of}
 use Rattle.core_core.proofs.InTurn.{IsCore-followed}
 use Rattle.core_core.proofs.one_core.Core.take_further.Goals as goal
 

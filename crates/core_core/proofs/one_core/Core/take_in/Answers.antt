@@ -1,4 +1,4 @@
-use Rattle.std.proofs.Common.{sym, ◌∙◌}
+use Rattle.core_core.proofs.Names.{sym, ◌∙◌}
 use Rattle.core_core.proofs.one_core.Core.take_in.Goals as goal
 
 pub has_work-requires : goal.has_work-requires

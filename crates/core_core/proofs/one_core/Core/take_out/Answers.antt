@@ -1,14 +1,5 @@
-use Rattle.std.proofs.Common.{◌≡◌, ℕ, ◌+◌, ◌-◌, ◌^◌, ◌<◌, Bool, true, false, List, [], length, max, drop, Some, None, refl, sym, ◌∙◌, ap, subst, arith}
-use Rattle.std.proofs.lemmas.Bool.{true≢false}
-use Rattle.std.specs.Prelude.{All, slice_index_or, slice_set}
-use Rattle.std.proofs.lemmas.List.Elements.{All-head}
-use Rattle.base_jobs.specs.Ready.{IsReady}
-use Rattle.core_queues.specs.Queues.{waiting_of, ChangesLine}
-use Rattle.core_queues.specs.Slips.{queues_alone}
-use Rattle.core_core.specs.declared.tally.Tally.{Tally}
-use Rattle.core_core.specs.State.{CoreView, is_any}
-use Rattle.core_core.specs.Inside.{core_view, job_out, KeepsSlips, IsCore}
-use Rattle.core_core.specs.Turns.{TakesOut}
+use Rattle.core_core.proofs.Names.{All, All-head, ap, arith, Bool, ChangesLine, core_view, CoreView, drop, false, is_any, IsCore, IsReady, job_out, KeepsSlips, length, List, max, None, queues_alone, refl, slice_index_or, slice_set, Some}
+use Rattle.core_core.proofs.Names.{subst, sym, TakesOut, Tally, true, true≢false, waiting_of, ℕ, [], ◌+◌, ◌-◌, ◌<◌, ◌^◌, ◌∙◌, ◌≡◌}
 use Rattle.core_core.proofs.Charging.{tally_read}
 use Rattle.core_core.proofs.Fits.{IsBounded-from_turns}
 use Rattle.core_core.proofs.Held.{held_none}

@@ -1,5 +1,4 @@
-use Rattle.std.proofs.Common.{ℕ, subst}
-use Rattle.core_core.specs.Whole.{TurnsWhole, pick_notes, settled_of, settle_notes}
+use Rattle.core_core.proofs.Names.{pick_notes, settle_notes, settled_of, subst, TurnsWhole, ℕ}
 use Rattle.core_core.proofs.one_core.Core.turn.Goals as goal
 
 pub returns-clause-whole : goal.returns-clause-whole

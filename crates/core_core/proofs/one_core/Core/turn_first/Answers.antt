@@ -1,17 +1,5 @@
-use Rattle.std.proofs.Common.{◌≡◌, ℕ, ◌+◌, ◌-◌, ◌^◌, ◌<◌, Bool, true, false, List, [], length, None, refl, sym, ◌∙◌, ap, subst, arith}
-use Rattle.std.specs.Prelude.{slice_index_or, slice_set}
-use Rattle.base_jobs.specs.Steps.{is_done_step}
-use Rattle.core_queues.specs.Queues.{queue_count, waiting_of, shares_of}
-use Rattle.core_queues.specs.Slips.{queues_alone}
-use Rattle.core_core.specs.declared.tally.Tally.{Tally}
-use Rattle.core_core.specs.State.{CoreView, is_any, tally_of}
-use Rattle.core_core.specs.declared.bursts.Bursts.{Bursts}
-use Rattle.core_core.specs.Bursts.{begun, queue_held}
-use Rattle.core_core.specs.Whole.{TurnsFirst}
-use Rattle.base_words.specs.Bursts.{has_bursts}
-use Rattle.base_words.specs.Work.{number_if}
-use Rattle.core_core.specs.Inside.{core_view, job_out, KeepsSlips, FitsTurns}
-use Rattle.core_core.specs.Relisted.{keys_after, slips_after}
+use Rattle.core_core.proofs.Names.{ap, arith, begun, Bool, Bursts, core_view, CoreView, false, FitsTurns, has_bursts, is_any, is_done_step, job_out, KeepsSlips, keys_after, length, List, None, number_if, queue_count, queue_held}
+use Rattle.core_core.proofs.Names.{queues_alone, refl, shares_of, slice_index_or, slice_set, slips_after, subst, sym, Tally, tally_of, true, TurnsFirst, waiting_of, ℕ, [], ◌+◌, ◌-◌, ◌<◌, ◌^◌, ◌∙◌, ◌≡◌}
 use Rattle.core_core.proofs.Charging.{after_poll, tally_read, charged_single}
 use Rattle.core_core.proofs.Held.{held_none}
 use Rattle.core_core.proofs.Turning.{begun_single}

@@ -1,6 +1,4 @@
-use Rattle.std.proofs.Common.{ℕ, subst}
-use Rattle.core_core.specs.Whole.{settled_of, settle_notes}
-use Rattle.core_core.specs.Further.{FollowsWhole, follow_notes}
+use Rattle.core_core.proofs.Names.{follow_notes, FollowsWhole, settle_notes, settled_of, subst, ℕ}
 use Rattle.core_core.proofs.one_core.Core.turn_further.Goals as goal
 
 pub returns-clause-whole : goal.returns-clause-whole

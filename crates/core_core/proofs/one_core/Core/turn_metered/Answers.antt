@@ -1,5 +1,4 @@
-use Rattle.std.proofs.Common.{sym, ◌∙◌}
-use Rattle.core_queues.specs.Queues.{waiting_of}
+use Rattle.core_core.proofs.Names.{sym, waiting_of, ◌∙◌}
 use Rattle.core_core.proofs.Turned.{TurnsWhole-first, some_front}
 use Rattle.core_core.proofs.one_core.Core.turn_metered.Goals as goal
 

@@ -1,16 +1,5 @@
-use Rattle.std.proofs.Common.{◌≡◌, ℕ, ◌+◌, ◌-◌, ◌^◌, ◌<◌, Bool, true, false, List, length, min, None, refl, sym, ◌∙◌, ap, subst, arith}
-use Rattle.std.specs.Prelude.{slice_index_or, slice_set}
-use Rattle.base_words.specs.Bursts.{has_bursts}
-use Rattle.base_words.specs.Work.{number_if}
-use Rattle.base_jobs.specs.Steps.{is_done_step}
-use Rattle.core_queues.specs.Queues.{queue_count, waiting_of, shares_of}
-use Rattle.core_queues.specs.Slips.{queues_alone}
-use Rattle.core_core.specs.declared.bursts.Bursts.{Bursts}
-use Rattle.core_core.specs.declared.bursts.OpenTurn.{OpenTurn}
-use Rattle.core_core.specs.declared.tally.Tally.{Tally}
-use Rattle.core_core.specs.State.{CoreView, tally_of}
-use Rattle.core_core.specs.Bursts.{lasted, settled_tally, queue_held}
-use Rattle.core_core.specs.Inside.{core_view, job_out, KeepsSlips, FitsTurns}
+use Rattle.core_core.proofs.Names.{ap, arith, Bool, Bursts, core_view, CoreView, false, FitsTurns, has_bursts, is_done_step, job_out, KeepsSlips, lasted, length, List, min, None, number_if, OpenTurn, queue_count, queue_held, queues_alone}
+use Rattle.core_core.proofs.Names.{refl, settled_tally, shares_of, slice_index_or, slice_set, subst, sym, Tally, tally_of, true, waiting_of, ℕ, ◌+◌, ◌-◌, ◌<◌, ◌^◌, ◌∙◌, ◌≡◌}
 use Rattle.core_core.proofs.Charging.{tally_read}
 use Rattle.core_core.proofs.Held.{held_none}
 use Rattle.core_core.proofs.InTurn.{counted_in_turn}

@@ -1,10 +1,4 @@
-use Rattle.std.proofs.Common.{◌≡◌, ◌<◌, true, [], refl, sym, subst}
-use Rattle.std.proofs.lemmas.List.Elements.{All-nil}
-use Rattle.base_jobs.specs.Ready.{IsReady}
-use Rattle.core_queues.specs.Queues.{queue_count}
-use Rattle.core_queues.specs.Slips.{queues_alone}
-use Rattle.core_core.specs.State.{CoreView, is_working}
-use Rattle.core_core.specs.Inside.{core_view, job_out}
+use Rattle.core_core.proofs.Names.{All-nil, core_view, CoreView, is_working, IsReady, job_out, queue_count, queues_alone, refl, subst, sym, true, [], ◌<◌, ◌≡◌}
 use Rattle.core_core.proofs.Fits.{IsBounded-from_turns}
 use Rattle.core_core.proofs.Moved.{ready_unparked, IsCore-joined}
 use Rattle.core_core.proofs.Unparked.{is_any-append, tally_woken-busy, EndsParks-one}

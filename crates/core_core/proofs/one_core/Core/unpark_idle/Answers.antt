@@ -1,15 +1,6 @@
-use Rattle.std.proofs.Common.{◌≡◌, ◌<◌, true, false, [], refl, sym, ◌∙◌, ap, subst, arith, length}
-use Rattle.std.specs.Prelude.{Bool, List, not, slice_index_or, slice_set}
-use Rattle.std.proofs.lemmas.List.Elements.{All-nil}
-use Rattle.base_jobs.specs.Ready.{IsReady}
-use Rattle.base_words.specs.Names.{is_number}
-use Rattle.core_queues.specs.Queues.{Parks, queue_count, waiting_of}
-use Rattle.core_queues.specs.Slips.{queues_alone}
-use Rattle.core_core.specs.State.{CoreView, is_any, is_working}
-use Rattle.core_core.specs.Bursts.{queue_open}
-use Rattle.core_core.specs.Relisted.{keys_after, slips_after}
-use Rattle.core_core.specs.Closing.{tally_woken}
-use Rattle.core_core.specs.Inside.{core_view, job_out, unsettled_count, FitsTurns, IsCore}
+use Rattle.core_core.proofs.Names.{All-nil, ap, arith, core_view, CoreView, false, FitsTurns, is_any, is_number, is_working, IsCore, IsReady, job_out, keys_after, length, not, Parks, queue_count, queue_open, queues_alone, refl}
+use Rattle.core_core.proofs.Names.{slice_index_or, slice_set, slips_after, subst, sym, tally_woken, true, true≢false, unsettled_count, waiting_of, [], ◌<◌, ◌∙◌, ◌≡◌}
+use Rattle.std.specs.Prelude.{Bool, List}
 use Rattle.core_core.proofs.Entries.{is_any-from_some}
 use Rattle.core_core.proofs.Fits.{placed_fits, IsBounded-from_turns}
 use Rattle.core_core.proofs.Listed.{LacksQueue-from_none}
@@ -17,7 +8,6 @@ use Rattle.core_core.proofs.Moved.{ready_unparked, IsCore-activated, IsCore-stil
 use Rattle.core_core.proofs.Parts.{idle_entry}
 use Rattle.core_core.proofs.SlipsKept.{slip_there}
 use Rattle.core_core.proofs.Unparked.{nobody_if_empty, EndsParks-one, EndsParks-placed}
-use Rattle.std.proofs.lemmas.Bool.{true≢false}
 use Rattle.core_core.proofs.one_core.Core.unpark_idle.Given.{Over}
 use Rattle.core_core.proofs.one_core.Core.unpark_idle.Goals as goal
 use Rattle.core_core.proofs.one_core.Core.unpark_idle.Goals.{After-enter_placed}

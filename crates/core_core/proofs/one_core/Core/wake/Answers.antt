@@ -1,4 +1,4 @@
-use Rattle.std.proofs.Common.{inl, sym, ◌∙◌}
+use Rattle.core_core.proofs.Names.{inl, sym, ◌∙◌}
 use Rattle.core_core.proofs.one_core.Core.wake.Goals as goal
 
 pub keep_out_wake-requires : goal.keep_out_wake-requires

@@ -1,9 +1,4 @@
-use Rattle.std.proofs.Common.{◌≡◌, Bool, false, List, sym, ap, ◌∙◌, subst, arith}
-use Rattle.std.specs.Prelude.{slice_index_or}
-use Rattle.core_queues.specs.Slips.{queues_alone}
-use Rattle.core_core.specs.State.{CoreView}
-use Rattle.core_core.specs.Inside.{core_view, job_out}
-use Rattle.core_core.specs.Waking.{is_out}
+use Rattle.core_core.proofs.Names.{ap, arith, Bool, core_view, CoreView, false, is_out, job_out, List, queues_alone, slice_index_or, subst, sym, ◌∙◌, ◌≡◌}
 use Rattle.core_core.proofs.Fits.{IsBounded-from_turns}
 use Rattle.core_core.proofs.Listed.{LacksQueue-from_none}
 use Rattle.core_core.proofs.Parts.{idle_entry}

@@ -1,5 +1,4 @@
-use Rattle.std.proofs.Common.{refl, ap}
-use Rattle.core_core.specs.Inside.{job_out}
+use Rattle.core_core.proofs.Names.{ap, job_out, refl}
 use Rattle.core_core.proofs.one_core.Core.who_is_out.Goals as goal
 
 pub returns : goal.returns

@@ -1,5 +1,4 @@
-use Rattle.std.proofs.lemmas.Bool.{eqb-true, eq-eqb}
-use Rattle.std.proofs.Common.{sym, ◌∙◌}
+use Rattle.core_core.proofs.Names.{eq-eqb, eqb-true, sym, ◌∙◌}
 use Rattle.core_core.proofs.Awaited.{through_if_none, none_if_through}
 use Rattle.core_core.proofs.senders.Senders.are_through.Goals as goal
 

@@ -1,6 +1,4 @@
-use Rattle.std.proofs.Common.{◌≡◌, ◌∙◌}
-use Rattle.std.specs.Prelude.{slice_set}
-use Rattle.core_core.specs.declared.senders.Sender.{Sender}
+use Rattle.core_core.proofs.Names.{Sender, slice_set, ◌∙◌, ◌≡◌}
 use Rattle.core_core.proofs.Awaited.{kept-set}
 use Rattle.core_core.proofs.senders.Senders.count.Goals as goal
 

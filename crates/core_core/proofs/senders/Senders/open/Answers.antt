@@ -1,6 +1,4 @@
-use Rattle.std.proofs.Common.{None, ap, ◌∙◌}
-use Rattle.core_core.specs.declared.senders.Sender.{Sender}
-use Rattle.core_core.specs.Senders.{senders_view}
+use Rattle.core_core.proofs.Names.{ap, None, Sender, senders_view, ◌∙◌}
 use Rattle.core_core.proofs.Awaited.{map-replicate}
 use Rattle.core_core.proofs.senders.Senders.open.Goals as goal
 

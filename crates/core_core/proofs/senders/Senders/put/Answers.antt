@@ -1,8 +1,4 @@
-use Rattle.std.proofs.Common.{Some, set, ap, arith, length-set}
-use Rattle.std.proofs.lemmas.List.{map-set}
-use Rattle.std.proofs.lemmas.List.Sums.{sum_by-set}
-use Rattle.core_core.specs.declared.senders.Sender.{Sender}
-use Rattle.core_core.specs.Senders.{is_awaited}
+use Rattle.core_core.proofs.Names.{ap, arith, is_awaited, length-set, map-set, Sender, set, Some, sum_by-set}
 use Rattle.core_core.proofs.Awaited.{awaited-few, within-view}
 use Rattle.core_core.proofs.senders.Senders.put.Goals as goal
 

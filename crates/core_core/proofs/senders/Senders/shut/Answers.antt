@@ -1,6 +1,4 @@
-use Rattle.std.proofs.Common.{◌≡◌, ◌∙◌, Some}
-use Rattle.std.specs.Prelude.{slice_set}
-use Rattle.core_core.specs.declared.senders.Sender.{Sender}
+use Rattle.core_core.proofs.Names.{Sender, slice_set, Some, ◌∙◌, ◌≡◌}
 use Rattle.core_core.proofs.Awaited.{kept-set}
 use Rattle.core_core.proofs.senders.Senders.shut.Goals as goal
 

@@ -1,5 +1,4 @@
-use Rattle.std.proofs.Common.{◌+◌, ap, arith}
-use Rattle.core_core.specs.declared.tally.Tally.{Tally}
+use Rattle.core_core.proofs.Names.{ap, arith, Tally, ◌+◌}
 use Rattle.core_core.proofs.tally.Tally.picked.Goals as goal
 
 pub overflow_add-tally : goal.overflow_add-tally

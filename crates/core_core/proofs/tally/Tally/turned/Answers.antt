@@ -1,5 +1,4 @@
-use Rattle.std.proofs.Common.{◌+◌, ap, arith}
-use Rattle.core_core.specs.declared.tally.Tally.{Tally}
+use Rattle.core_core.proofs.Names.{ap, arith, Tally, ◌+◌}
 use Rattle.core_core.proofs.tally.Tally.turned.Goals as goal
 
 pub charged-tally-requires : goal.charged-tally-requires

@@ -1,8 +1,5 @@
-use Rattle.std.proofs.Common.{sym, ap, subst, refl, arith, length-set}
+use Rattle.core_queues.proofs.Names.{ap, arith, HasOwnSlips, length-set, Queue, queues_alone, refl, subst, sym}
 use Rattle.std.specs.Prelude.{Some}
-use Rattle.core_queues.specs.declared.line.Queue.{Queue}
-use Rattle.core_queues.specs.Slips.{queues_alone}
-use Rattle.core_queues.specs.Linked.{HasOwnSlips}
 use Rattle.core_queues.proofs.Changes.{lines-weighed, says-weighed, IsKept-weighed, ChangesMode-closed}
 use Rattle.core_queues.proofs.Rests.{AreAtRest-same}
 use Rattle.core_queues.proofs.Parked.{SameParks-lines}

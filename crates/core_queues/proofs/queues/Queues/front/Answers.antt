@@ -1,8 +1,4 @@
-use Rattle.std.proofs.Common.{◌≡◌, ◌<◌, ℕ, Some, sym, ap, subst, arith}
-use Rattle.slab.specs.Slab.{get}
-use Rattle.core_queues.specs.declared.line.Line.{Line}
-use Rattle.core_queues.specs.declared.line.Queue.{Queue}
-use Rattle.core_queues.specs.Slips.{queues_alone}
+use Rattle.core_queues.proofs.Names.{ap, arith, get, Line, Queue, queues_alone, Some, subst, sym, ℕ, ◌<◌, ◌≡◌}
 use Rattle.core_queues.proofs.Fronts.{head_shown}
 use Rattle.core_queues.proofs.Spots.{waits, queue_read}
 use Rattle.core_queues.proofs.Views.{exists-view, head_filled}

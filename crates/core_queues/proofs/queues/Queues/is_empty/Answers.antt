@@ -1,9 +1,5 @@
-use Rattle.std.proofs.Common.{length, ap, sym, ◌∙◌, arith}
-use Rattle.std.proofs.lemmas.Bool.{eqb-true, eq-eqb}
-use Rattle.std.proofs.lemmas.List.{nil_from_length}
+use Rattle.core_queues.proofs.Names.{ap, arith, eq-eqb, eqb-true, length, nil_from_length, Queue, queues_alone, sym, ◌∙◌}
 use Rattle.core_queues.specs.Queues.{waiting_of}
-use Rattle.core_queues.specs.Slips.{queues_alone}
-use Rattle.core_queues.specs.declared.line.Queue.{Queue}
 use Rattle.core_queues.proofs.Spots.{queue_read}
 use Rattle.core_queues.proofs.Views.{alone, exists-view, length-waiting_of}
 use Rattle.core_queues.proofs.queues.Queues.is_empty.Goals as goal

@@ -1,9 +1,4 @@
-use Rattle.std.proofs.Common.{sym, ap, subst, refl, arith, length-set}
-use Rattle.core_queues.specs.declared.waiting.Waiting.{Waiting}
-use Rattle.core_queues.specs.declared.line.Queue.{Queue}
-use Rattle.core_queues.specs.Slips.{queues_alone}
-use Rattle.core_queues.specs.Linked.{HasOwnSlips}
-use Rattle.core_queues.specs.Entries.{Appends}
+use Rattle.core_queues.proofs.Names.{ap, Appends, arith, HasOwnSlips, length-set, Queue, queues_alone, refl, subst, sym, Waiting}
 use Rattle.core_queues.proofs.Joins.{IsKept-joined, ChangesLine-joined, held_count-joined, Writes-joined}
 use Rattle.core_queues.proofs.Spots.{waits, queue_read}
 use Rattle.core_queues.proofs.Views.{exists-view, fits-view, tail_filled, count-le-len, IsWithinLimits-view}

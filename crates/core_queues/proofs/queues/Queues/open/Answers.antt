@@ -1,6 +1,4 @@
-use Rattle.std.proofs.Common.{None, replicate, ap, ◌∙◌, arith}
-use Rattle.core_queues.specs.Seats.{no_seat}
-use Rattle.core_queues.specs.declared.line.Queue.{Queue}
+use Rattle.core_queues.proofs.Names.{ap, arith, no_seat, None, Queue, replicate, ◌∙◌}
 use Rattle.core_queues.proofs.Changes.{IsKept-opened}
 use Rattle.core_queues.proofs.OwnSlips.{HasOwnSlips-one}
 use Rattle.core_queues.proofs.Rests.{AreAtRest-opened}

@@ -1,12 +1,6 @@
-use Rattle.std.proofs.Common.{◌<◌, ◌≡◌, length, set, true, false, Some, sym, ap, subst, refl, arith, length-set}
-use Rattle.core_queues.specs.declared.waiting.Waiting.{Waiting}
-use Rattle.core_queues.specs.declared.line.Queue.{Queue}
-use Rattle.core_queues.specs.Slips.{queues_alone}
-use Rattle.core_queues.specs.Linked.{HasOwnSlips, shown}
-use Rattle.core_queues.specs.Entries.{Appends}
+use Rattle.core_queues.proofs.Names.{ap, Appends, AreFound, arith, false, HasOwnSlips, length, length-set, Queue, queues_alone, refl, set, shown, Some, subst, sym, true, Waiting, ◌<◌, ◌≡◌}
 use Rattle.core_queues.proofs.Joins.{IsKept-joined, ChangesParks-joined, held_count-joined, Writes-joined}
 use Rattle.core_queues.proofs.Spots.{parks, placed, queue_read}
-use Rattle.core_queues.specs.Seats.{AreFound}
 use Rattle.core_queues.proofs.Views.{line_says, exists-view, fits-view, tail_filled, count-le-len, IsWithinLimits-view}
 use Rattle.core_queues.proofs.Finds.{AreFound-parked}
 use Rattle.core_queues.proofs.Names.{vacant-appended, capacity-appended}

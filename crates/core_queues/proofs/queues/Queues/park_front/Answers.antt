@@ -1,12 +1,4 @@
-use Rattle.std.proofs.Common.{◌≡◌, ◌<◌, false, [], sym, ap, ◌∙◌, subst, arith, length-set}
-use Rattle.slab.specs.Slab.{get}
-use Rattle.core_queues.specs.declared.waiting.Waiting.{Waiting}
-use Rattle.core_queues.specs.declared.line.Line.{Line}
-use Rattle.core_queues.specs.declared.line.Queue.{Queue}
-use Rattle.core_queues.specs.Linked.{HasOwnSlips}
-use Rattle.core_queues.specs.Entries.{Requeues, MovesHead}
-use Rattle.core_queues.specs.View.{QueuesView, waiting_of}
-use Rattle.core_queues.specs.Slips.{queues_alone}
+use Rattle.core_queues.proofs.Names.{ap, arith, false, get, HasOwnSlips, length-set, Line, MovesHead, Queue, queues_alone, QueuesView, Requeues, subst, sym, Waiting, waiting_of, [], ◌<◌, ◌∙◌, ◌≡◌}
 use Rattle.core_queues.proofs.Fronts.{some_waiting}
 use Rattle.core_queues.proofs.Finds.{AreFound-requeued, AreFound-moved}
 use Rattle.core_queues.proofs.Names.{key_within}

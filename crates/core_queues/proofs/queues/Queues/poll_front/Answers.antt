@@ -1,13 +1,5 @@
-use Rattle.std.proofs.Common.{sym, ap, refl, subst, arith}
-use Rattle.std.specs.Prelude.{IfSome}
-use Rattle.slab.specs.Slab.{get}
-use Rattle.base_jobs.specs.Ready.{IsReady}
-use Rattle.core_queues.specs.declared.line.Line.{Line}
-use Rattle.core_queues.specs.declared.line.Queue.{Queue}
-use Rattle.core_queues.specs.Entries.{Renews}
-use Rattle.core_queues.specs.Fronts.{IsFrontReady}
+use Rattle.core_queues.proofs.Names.{ap, arith, get, IfSome, IsFrontReady, IsReady, Line, Queue, queues_alone, refl, Renews, subst, sym}
 use Rattle.core_queues.specs.Queues.{QueuesView, waiting_of}
-use Rattle.core_queues.specs.Slips.{queues_alone}
 use Rattle.core_queues.proofs.Fronts.{some_ready, some_waiting, head_ready, Rewrites-job, front_renewed, front_rests}
 use Rattle.core_queues.proofs.Renewals.{IsKept-renewed}
 use Rattle.core_queues.proofs.Finds.{AreFound-renewed}

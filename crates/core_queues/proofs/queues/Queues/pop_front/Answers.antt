@@ -1,12 +1,5 @@
-use Rattle.std.proofs.Common.{◌≡◌, ℕ, ◌-◌, ◌<◌, drop, set, None, sym, ap, subst, refl, arith, length-set}
-use Rattle.std.specs.Prelude.{is_some}
-use Rattle.core_queues.specs.declared.line.Line.{Line}
-use Rattle.core_queues.specs.declared.line.Queue.{Queue}
-use Rattle.core_queues.specs.Queues.{ChangesLine}
-use Rattle.core_queues.specs.Slips.{queues_alone}
-use Rattle.core_queues.specs.Linked.{HasOwnSlips}
+use Rattle.core_queues.proofs.Names.{ap, AreFound, arith, ChangesLine, drop, HasOwnSlips, is_some, length-set, Line, None, Queue, queues_alone, refl, set, subst, sym, ℕ, ◌-◌, ◌<◌, ◌≡◌}
 use Rattle.core_queues.proofs.Leaves.{Leaves, IsKept-left, waiting_of-left, ChangesLine-left, held_count-left, Writes-left}
-use Rattle.core_queues.specs.Seats.{AreFound}
 use Rattle.core_queues.proofs.Spots.{waits, placed, queue_read}
 use Rattle.core_queues.proofs.Finds.{AreFound-left}
 use Rattle.core_queues.proofs.Names.{has_name}

@@ -1,12 +1,5 @@
-use Rattle.std.proofs.Common.{◌≡◌, ◌<◌, [], sym, ap, refl, subst, arith, length-set}
-use Rattle.slab.specs.Slab.{get}
-use Rattle.core_queues.specs.declared.waiting.Waiting.{Waiting}
-use Rattle.core_queues.specs.declared.line.Line.{Line}
-use Rattle.core_queues.specs.declared.line.Queue.{Queue}
-use Rattle.core_queues.specs.Linked.{HasOwnSlips}
-use Rattle.core_queues.specs.Entries.{Requeues}
+use Rattle.core_queues.proofs.Names.{ap, arith, get, HasOwnSlips, length-set, Line, Queue, queues_alone, refl, Requeues, subst, sym, Waiting, [], ◌<◌, ◌≡◌}
 use Rattle.core_queues.specs.Queues.{QueuesView, waiting_of}
-use Rattle.core_queues.specs.Slips.{queues_alone}
 use Rattle.core_queues.proofs.Fronts.{some_waiting}
 use Rattle.core_queues.proofs.Finds.{AreFound-requeued}
 use Rattle.core_queues.proofs.Marked.{one_entry}

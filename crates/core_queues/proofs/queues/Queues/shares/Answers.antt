@@ -1,6 +1,4 @@
-use Rattle.std.proofs.Common.{◌∙◌, ap, sym, arith}
-use Rattle.core_queues.specs.declared.line.Queue.{Queue}
-use Rattle.core_queues.specs.Slips.{queues_alone}
+use Rattle.core_queues.proofs.Names.{ap, arith, Queue, queues_alone, sym, ◌∙◌}
 use Rattle.core_queues.proofs.Spots.{queue_read}
 use Rattle.core_queues.proofs.Views.{exists-view, shares_of-view}
 use Rattle.core_queues.proofs.queues.Queues.shares.Goals as goal

@@ -1,8 +1,4 @@
-use Rattle.std.proofs.Common.{[], ◌∷◌, ◌++◌, Some, length, sym, ap, subst, ◌∙◌, refl, arith}
-use Rattle.std.proofs.lemmas.List.{length_push}
-use Rattle.core_queues.specs.declared.line.Queue.{Queue}
-use Rattle.core_queues.specs.Queues.{AddsQueue}
-use Rattle.core_queues.specs.Linked.{HasOwnSlips}
+use Rattle.core_queues.proofs.Names.{AddsQueue, ap, arith, HasOwnSlips, length, length_push, Queue, refl, Some, subst, sym, [], ◌++◌, ◌∙◌, ◌∷◌}
 use Rattle.core_queues.proofs.Views.{alone, IsWithinLimits-view, queue_count-view}
 use Rattle.core_queues.proofs.Changes.{IsKept-created, AddsQueue-created, lines-created, says-created}
 use Rattle.core_queues.proofs.Rests.{AreAtRest-same}

@@ -1,12 +1,4 @@
-use Rattle.std.proofs.Common.{◌<◌, ℕ, length, sym, ap, refl, subst, arith, length-set}
-use Rattle.core_queues.specs.declared.line.Queue.{Queue}
-use Rattle.core_queues.specs.Linked.{HasOwnSlips}
-use Rattle.core_queues.specs.Lines.{JoinsLines}
-use Rattle.core_queues.specs.Slips.{queues_alone}
-use Rattle.slab.specs.Slab.{get}
-use Rattle.core_queues.specs.Linked.{key_at}
-use Rattle.core_queues.specs.Lines.{IsChain}
-use Rattle.core_queues.specs.Seats.{Vacates}
+use Rattle.core_queues.proofs.Names.{ap, arith, get, HasOwnSlips, IsChain, JoinsLines, key_at, length, length-set, Queue, queues_alone, refl, subst, sym, Vacates, ℕ, ◌<◌}
 use Rattle.core_queues.proofs.Finds.{AreFound-unparked, found_within}
 use Rattle.core_queues.proofs.Spots.{waits, parks, queue_read}
 use Rattle.core_queues.proofs.Unparks.{unparked_queues, both-le-len, IsKept-unparked, AreAtRest-unparked, Moves-unparked}

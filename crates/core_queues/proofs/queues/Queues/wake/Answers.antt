@@ -1,12 +1,4 @@
-use Rattle.std.proofs.Common.{◌≡◌, ◌<◌, ℕ, suc, Some, length, sym, ap, ◌∙◌, refl, subst, arith, length-set}
-use Rattle.std.specs.Prelude.{is_some}
-use Rattle.slab.specs.Slab.{get, ContainsKey}
-use Rattle.base_words.specs.declared.names.JobId.{JobId}
-use Rattle.core_queues.specs.declared.waiting.Waiting.{Waiting}
-use Rattle.core_queues.specs.declared.line.Queue.{Queue}
-use Rattle.core_queues.specs.Linked.{HasOwnSlips, line_at}
-use Rattle.core_queues.specs.Lines.{MovesOut}
-use Rattle.core_queues.specs.Seats.{name_of, LeavesSeat}
+use Rattle.core_queues.proofs.Names.{ap, arith, ContainsKey, get, HasOwnSlips, is_some, JobId, LeavesSeat, length, length-set, line_at, MovesOut, name_of, Queue, refl, Some, subst, suc, sym, Waiting, ℕ, ◌<◌, ◌∙◌, ◌≡◌}
 use Rattle.core_queues.proofs.Finds.{next_within}
 use Rattle.core_queues.proofs.Named.{HoldsNone-nowhere}
 use Rattle.core_queues.proofs.Names.{entry_of, key_within}

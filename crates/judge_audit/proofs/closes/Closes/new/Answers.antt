@@ -1,5 +1,4 @@
-use Rattle.std.proofs.Common.{false, refl, sym, get_or, replicate}
-use Rattle.std.proofs.lemmas.Bool.{both_ways, true≢false}
+use Rattle.judge_audit.proofs.Names.{both_ways, false, get_or, refl, replicate, sym, true≢false}
 use Rattle.judge_audit.proofs.CloseSteps.{none_there}
 use Rattle.judge_audit.proofs.closes.Closes.new.Goals as goal
 

@@ -1,6 +1,4 @@
-use Rattle.std.proofs.Common.{ℕ, ◌≤◌, refl, sym, ap, ◌∙◌, subst, arith}
-use Rattle.base_words.specs.Assembly.{order_of}
-use Rattle.judge_audit.specs.Numbers.{queue_asked, last_started}
+use Rattle.judge_audit.proofs.Names.{ap, arith, last_started, order_of, queue_asked, refl, subst, sym, ℕ, ◌∙◌, ◌≤◌}
 use Rattle.judge_audit.proofs.NumberSteps.{next_start, same_asked}
 use Rattle.judge_audit.proofs.Reached.{reached_more, next_reached}
 use Rattle.judge_audit.proofs.order.Numbers.add.Goals as goal

@@ -1,6 +1,4 @@
-use Rattle.std.proofs.Common.{refl, sym, arith}
-use Rattle.std.proofs.lemmas.Bool.{true≢false}
-use Rattle.judge_audit.specs.Numbers.{all_rows, slot, greatest_word}
+use Rattle.judge_audit.proofs.Names.{all_rows, arith, greatest_word, refl, slot, sym, true≢false}
 use Rattle.judge_audit.proofs.NumberSteps.{zero_there}
 use Rattle.judge_audit.proofs.Reached.{zeros_of}
 use Rattle.judge_audit.proofs.order.Numbers.new.Goals as goal

@@ -1,6 +1,4 @@
-use Rattle.std.proofs.Common.{arith}
-use Rattle.std.proofs.lemmas.List.{get_or_past}
-use Rattle.judge_audit.specs.Numbers.{slot, greatest_word}
+use Rattle.judge_audit.proofs.Names.{arith, get_or_past, greatest_word, slot}
 use Rattle.judge_audit.proofs.order.Numbers.start.Goals as goal
 
 pub returns-else-at-lt4352-clause-this : goal.returns-else-at-lt4352-clause-this

@@ -1,7 +1,4 @@
-use Rattle.std.proofs.Common.{rules, arith, ap, sym, ◌∙◌, subst, length}
-use Rattle.atomic_blocks.specs.Cells.{row, AllHome}
-use Rattle.base_jobs.specs.Ready.{HasReadyJob}
-use Rattle.link_ends.specs.Fits.{Fits}
+use Rattle.link_board.proofs.Names.{AllHome, ap, arith, Fits, HasReadyJob, length, row, rules, subst, sym, ◌∙◌}
 use Rattle.link_board.proofs.Ending.{ending, gate_stays, none_left_after}
 use Rattle.link_board.proofs.board.Board.drop.Goals as goal
 

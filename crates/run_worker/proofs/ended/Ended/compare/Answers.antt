@@ -1,9 +1,5 @@
-use Rattle.std.proofs.Common.{ℕ, sym, ◌∙◌, ap, subst}
+use Rattle.run_worker.proofs.Names.{ap, EndedView, grows_along, HasEnded, Publishing, shown_of, subst, sym, ℕ, ◌∙◌}
 use Rattle.run_watch.specs.Growth.{Grows}
-use Rattle.run_watch.specs.declared.publisher.Publishing.{Publishing}
-use Rattle.run_worker.specs.Ended.{EndedView, HasEnded}
-use Rattle.run_worker.specs.Shown.{shown_of}
-use Rattle.actor_seat.proofs.Along.{grows_along}
 use Rattle.run_worker.proofs.ended.Ended.compare.Goals as goal
 
 pub compare-requires : goal.compare-requires

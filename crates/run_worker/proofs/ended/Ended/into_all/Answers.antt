@@ -1,5 +1,4 @@
-use Rattle.std.proofs.Common.{subst}
-use Rattle.run_worker.specs.Ended.{HasEnded}
+use Rattle.run_worker.proofs.Names.{HasEnded, subst}
 use Rattle.run_worker.proofs.ended.Ended.into_all.Goals as goal
 
 pub returns-clause-ended : goal.returns-clause-ended

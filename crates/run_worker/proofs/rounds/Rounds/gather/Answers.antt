@@ -1,5 +1,4 @@
-use Rattle.std.proofs.Common.{ap}
-use Rattle.actor_seat.specs.Bells.{BellsView}
+use Rattle.run_worker.proofs.Names.{ap, BellsView}
 use Rattle.run_worker.proofs.Rung.{since_rung, since_within}
 use Rattle.run_worker.proofs.rounds.Rounds.gather.Goals as goal
 

@@ -1,13 +1,5 @@
-use Rattle.std.proofs.Common.{sym, ◌∙◌, subst, ap}
-use Rattle.std.specs.Prelude.{◌||◌, is_some}
-use Rattle.base_words.specs.Closing.{core_mode}
-use Rattle.run_worker.specs.Rounds.{CollectsFirst, StepsServed}
-use Rattle.run_worker.specs.Rounds.{AreRung}
-use Rattle.actor_seat.specs.Bells.{once_more}
-use Rattle.run_worker.specs.Asks.{polls_of}
-use Rattle.run_worker.specs.Few.{RoundsFew}
-use Rattle.run_worker.specs.Readings.{kept_behind, watch_view}
-use Rattle.run_worker.specs.Looks.{leaves_turns, turns_after}
+use Rattle.run_worker.proofs.Names.{ap, AreRung, CollectsFirst, core_mode, is_some, kept_behind, leaves_turns, once_more, polls_of, RoundsFew, StepsServed, subst, sym, turns_after, watch_view, ◌∙◌}
+use Rattle.std.specs.Prelude.{◌||◌}
 use Rattle.run_worker.proofs.Asking.{asks_between}
 use Rattle.run_worker.proofs.Fewer.{look_few}
 use Rattle.run_worker.proofs.Looked.{turns_same}

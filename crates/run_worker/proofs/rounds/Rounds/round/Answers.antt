@@ -1,7 +1,4 @@
-use Rattle.std.proofs.Common.{inl, inr, refl, ◌∙◌, subst, arith}
-use Rattle.std.specs.Prelude.{false}
-use Rattle.run_worker.specs.Looks.{TurnsAlone, round_view}
-use Rattle.run_worker.specs.Rounds.{StepsServed}
+use Rattle.run_worker.proofs.Names.{arith, false, inl, inr, refl, round_view, StepsServed, subst, TurnsAlone, ◌∙◌}
 use Rattle.run_worker.proofs.Asking.{asks_then}
 use Rattle.run_worker.proofs.Spare.{least_along}
 use Rattle.run_worker.proofs.Fewer.{alone_none, few_along, few_more, turn_few}

@@ -1,6 +1,4 @@
-use Rattle.std.proofs.Common.{◌≡◌, ◌+◌, ◌*◌, sym, ◌∙◌, ap, subst, arith}
-use Rattle.actor_seat.specs.Bells.{BellsView}
-use Rattle.run_worker.specs.Rounds.{StepsServed}
+use Rattle.run_worker.proofs.Names.{ap, arith, BellsView, StepsServed, subst, sym, ◌*◌, ◌+◌, ◌∙◌, ◌≡◌}
 use Rattle.run_worker.proofs.Fewer.{few_along}
 use Rattle.run_worker.proofs.Heard.{heard_behind}
 use Rattle.run_worker.proofs.Looked.{shut_behind}

@@ -1,12 +1,5 @@
-use Rattle.std.proofs.Common.{inl, inr, refl, sym, ◌∙◌, subst, ap}
-use Rattle.std.specs.Prelude.{false, true}
-use Rattle.run_worker.specs.Looks.{PassesLinks, round_view}
-use Rattle.run_worker.specs.Rounds.{StepsServed}
-use Rattle.run_worker.specs.Rounds.{AreRung}
-use Rattle.run_worker.specs.Asks.{polls_of}
-use Rattle.run_worker.specs.Turns.{TurnsWith}
+use Rattle.run_worker.proofs.Names.{ap, AreRung, false, inl, inr, PassesLinks, polls_of, refl, round_view, StepsServed, subst, sym, true, TurnsFew, TurnsWith, ◌∙◌}
 use Rattle.run_worker.proofs.Asking.{asks_between, asks_none}
-use Rattle.run_worker.specs.Few.{TurnsFew}
 use Rattle.run_worker.proofs.Fewer.{few_none}
 use Rattle.run_worker.proofs.Looked.{turns_same}
 use Rattle.run_worker.proofs.Telling.{steps_none}

@@ -1,5 +1,4 @@
-use Rattle.std.proofs.Common.{subst}
-use Rattle.run_worker.specs.Shown.{TellsAlone}
+use Rattle.run_worker.proofs.Names.{subst, TellsAlone}
 use Rattle.run_worker.proofs.served.Served.closed_alone.Goals as goal
 
 pub returns : goal.returns

@@ -1,7 +1,4 @@
-use Rattle.std.proofs.Common.{◌≡◌, ◌*◌}
-use Rattle.run_worker.specs.Asks.{NotesNoPoll}
-use Rattle.run_worker.specs.Few.{WritesFew}
-use Rattle.run_worker.specs.Rounds.{CollectsFirst, StepsServed}
+use Rattle.run_worker.proofs.Names.{CollectsFirst, NotesNoPoll, StepsServed, WritesFew, ◌*◌, ◌≡◌}
 use Rattle.run_worker.proofs.served.Served.collect_all.Given as goal
 
 abbrev pub invariant-loop-core : goal.invariant-loop-core

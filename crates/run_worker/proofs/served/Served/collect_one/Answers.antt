@@ -1,17 +1,12 @@
-use Rattle.std.proofs.Common.{◌≡◌, sym, ◌∙◌, ap, subst, arith}
-use Rattle.std.specs.Prelude.{nat_lt}
+use Rattle.run_worker.proofs.Names.{ActsAsItMay, ap, arith, collected_few, IsReady, IsServed, nat_lt, polls_of, subst, sym, ◌∙◌, ◌≡◌}
 use Rattle.run_worker.proofs.Alone.{alone_grows}
 use Rattle.run_worker.proofs.Between.{between_behind}
-use Rattle.run_worker.specs.Rooms.{ActsAsItMay, IsReady}
-use Rattle.run_worker.specs.Ended.{IsServed}
 use Rattle.run_worker.proofs.Spare.{least_along, places_few}
 use Rattle.run_worker.proofs.Serving.{collects_served}
 use Rattle.run_worker.proofs.Telling.{looked_steps, looked_alone, collected_tells}
-use Rattle.actor_seat.proofs.Fewer.{collected_few}
 use Rattle.run_worker.proofs.Fewer.{looked_few, looked_none}
 use Rattle.run_worker.proofs.Heard.{looked_collects, ended_collects}
 use Rattle.run_worker.proofs.Asking.{collects_note_none}
-use Rattle.run_worker.specs.Asks.{polls_of}
 use Rattle.run_worker.proofs.served.Served.collect_one.Goals as goal
 
 pub collect_from-requires-clause-room : goal.collect_from-requires-clause-room

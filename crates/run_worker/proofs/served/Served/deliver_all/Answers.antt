@@ -1,7 +1,4 @@
-use Rattle.std.proofs.Common.{◌≡◌, ◌+◌, ◌*◌, sym, ◌∙◌, subst, arith}
-use Rattle.std.proofs.Math.Nat.{add-mul}
-use Rattle.run_worker.specs.Few.{WritesFew}
-use Rattle.run_worker.specs.Rounds.{StepsServed}
+use Rattle.run_worker.proofs.Names.{add-mul, arith, StepsServed, subst, sym, WritesFew, ◌*◌, ◌+◌, ◌∙◌, ◌≡◌}
 use Rattle.run_worker.proofs.Telling.{steps_found, steps_same}
 use Rattle.run_worker.proofs.Fewer.{few_along}
 use Rattle.run_worker.proofs.Heard.{next_heard}

@@ -1,7 +1,4 @@
-use Rattle.std.proofs.Common.{◌≡◌, ◌+◌, ◌*◌}
-use Rattle.run_worker.specs.Asks.{NotesNoPoll}
-use Rattle.run_worker.specs.Few.{WritesFew}
-use Rattle.run_worker.specs.Rounds.{HearsFirst, StepsServed}
+use Rattle.run_worker.proofs.Names.{HearsFirst, NotesNoPoll, StepsServed, WritesFew, ◌*◌, ◌+◌, ◌≡◌}
 use Rattle.run_worker.proofs.served.Served.deliver_all.Given as goal
 
 abbrev pub invariant-loop-sender : goal.invariant-loop-sender

@@ -1,15 +1,12 @@
-use Rattle.std.proofs.Common.{sym, ◌∙◌, subst, ap, arith}
+use Rattle.run_worker.proofs.Names.{ap, arith, delivered_few, IsReady, polls_of, subst, sym, ◌∙◌}
 use Rattle.run_worker.proofs.Alone.{alone_grows}
 use Rattle.run_worker.proofs.Between.{between_behind}
-use Rattle.run_worker.specs.Rooms.{IsReady}
 use Rattle.run_worker.proofs.Spare.{least_along, ready_room}
 use Rattle.run_worker.proofs.Serving.{delivers_served}
 use Rattle.run_worker.proofs.Telling.{looked_steps, delivered_tells}
-use Rattle.actor_seat.proofs.Fewer.{delivered_few}
 use Rattle.run_worker.proofs.Fewer.{looked_few}
 use Rattle.run_worker.proofs.Heard.{looked_hears}
 use Rattle.run_worker.proofs.Asking.{delivered_notes_none}
-use Rattle.run_worker.specs.Asks.{polls_of}
 use Rattle.run_worker.proofs.served.Served.deliver_one.Goals as goal
 
 pub deliver-requires-clause-room : goal.deliver-requires-clause-room

@@ -1,7 +1,4 @@
-use Rattle.std.proofs.Common.{◌≡◌, ◌+◌, ◌*◌, refl, sym, ◌∙◌, ap, subst, arith}
-use Rattle.std.specs.Prelude.{nat_lt}
-use Rattle.std.proofs.lemmas.Bool.{lt-ltb}
-use Rattle.run_worker.specs.Rounds.{StepsServed, HearsOne}
+use Rattle.run_worker.proofs.Names.{ap, arith, HearsOne, lt-ltb, nat_lt, refl, StepsServed, subst, sym, ◌*◌, ◌+◌, ◌∙◌, ◌≡◌}
 use Rattle.run_worker.proofs.Telling.{steps_none, steps_found, steps_same}
 use Rattle.run_worker.proofs.Fewer.{few_none, few_along, few_more}
 use Rattle.run_worker.proofs.Heard.{none_heard, one_more_heard, none_left, all_heard}

@@ -1,8 +1,4 @@
-use Rattle.std.proofs.Common.{◌≡◌, ◌*◌}
-use Rattle.std.specs.Prelude.{nat_lt}
-use Rattle.run_worker.specs.Asks.{NotesNoPoll}
-use Rattle.run_worker.specs.Few.{WritesFew}
-use Rattle.run_worker.specs.Rounds.{StepsServed}
+use Rattle.run_worker.proofs.Names.{nat_lt, NotesNoPoll, StepsServed, WritesFew, ◌*◌, ◌≡◌}
 use Rattle.run_worker.proofs.Heard.{HearsMany}
 use Rattle.run_worker.proofs.served.Served.deliver_some.Given as goal
 

@@ -1,6 +1,4 @@
-use Rattle.std.proofs.Common.{sym, ◌∙◌, ap, subst}
-use Rattle.run_worker.specs.Shown.{TellsAlone}
-use Rattle.run_worker.specs.Passing.{HasPlaces}
+use Rattle.run_worker.proofs.Names.{ap, HasPlaces, subst, sym, TellsAlone, ◌∙◌}
 use Rattle.run_worker.proofs.Supplied.{hands_least, hands_notes, hands_served}
 use Rattle.run_worker.proofs.served.Served.hand_on.Goals as goal
 

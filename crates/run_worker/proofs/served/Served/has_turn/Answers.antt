@@ -1,18 +1,7 @@
-use Rattle.std.proofs.Common.{◌≡◌, ℕ, ◌-◌, ◌^◌, ◌<◌, false, [], inl, inr, sym, ◌∙◌, subst, arith}
-use Rattle.std.proofs.lemmas.Bool.{false≢true}
+use Rattle.run_worker.proofs.Names.{Ahead, all_used, arith, false≢true, has_work, HasNoTurn, idle, inl, inr, IsRecorded, Meaning, PickError, RecordedView, ServedView, some_front, subst, sym, TellsAhead, turns, waiting_of, works, ℕ, [], ◌-◌}
+use Rattle.run_worker.proofs.Names.{◌<◌, ◌^◌, ◌∙◌, ◌≡◌}
+use Rattle.std.proofs.Common.{false}
 use Rattle.std.specs.Prelude.{Ok, Err}
-use Rattle.base_words.specs.Picks.{turns}
-use Rattle.base_words.specs.Work.{has_work}
-use Rattle.core_core.specs.declared.turn.Ahead.{Ahead}
-use Rattle.core_core.specs.declared.turn.PickError.{PickError}
-use Rattle.core_core.specs.Whole.{TellsAhead}
-use Rattle.core_core.proofs.Turned.{some_front}
-use Rattle.core_queues.specs.Queues.{waiting_of}
-use Rattle.actor_core.proofs.Ahead.{idle, all_used, works}
-use Rattle.actor_core.specs.Recorded.{IsRecorded, RecordedView}
-use Rattle.base_jobs.specs.Meanings.{Meaning}
-use Rattle.actor_seat.specs.Steps.{HasNoTurn}
-use Rattle.run_worker.specs.Ended.{ServedView}
 use Rattle.run_worker.proofs.served.Served.has_turn.Goals as goal
 
 -- where a job waits and a turn is left, a turn is to be made

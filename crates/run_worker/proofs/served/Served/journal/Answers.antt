@@ -1,5 +1,4 @@
-use Rattle.std.proofs.Common.{subst}
-use Rattle.run_worker.specs.Ended.{IsServed}
+use Rattle.run_worker.proofs.Names.{IsServed, subst}
 use Rattle.run_worker.proofs.served.Served.journal.Goals as goal
 
 pub returns-clause-sound : goal.returns-clause-sound

@@ -1,4 +1,4 @@
-use Rattle.std.proofs.Common.{sym, ◌∙◌}
+use Rattle.run_worker.proofs.Names.{sym, ◌∙◌}
 use Rattle.run_worker.proofs.Between.{between_behind}
 use Rattle.run_worker.proofs.Spare.{least_along}
 use Rattle.run_worker.proofs.served.Served.look.Goals as goal

@@ -1,7 +1,4 @@
-use Rattle.std.proofs.Common.{◌≡◌, sym, subst}
-use Rattle.run_worker.specs.Ended.{IsServed}
-use Rattle.run_worker.specs.Rooms.{least_free}
-use Rattle.run_worker.specs.Shown.{TellsAlone}
+use Rattle.run_worker.proofs.Names.{IsServed, least_free, subst, sym, TellsAlone, ◌≡◌}
 use Rattle.run_worker.proofs.served.Served.prefault.Goals as goal
 
 pub invariant_of-self : goal.invariant_of-self

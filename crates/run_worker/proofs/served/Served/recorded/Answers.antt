@@ -1,5 +1,4 @@
-use Rattle.std.proofs.Common.{subst}
-use Rattle.actor_core.specs.Recorded.{IsRecorded}
+use Rattle.run_worker.proofs.Names.{IsRecorded, subst}
 use Rattle.run_worker.proofs.served.Served.recorded.Goals as goal
 
 pub returns-clause-sound : goal.returns-clause-sound

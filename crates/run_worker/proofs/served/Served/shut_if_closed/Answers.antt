@@ -1,17 +1,10 @@
-use Rattle.std.proofs.Common.{◌≡◌, ◌+◌, sym, ◌∙◌, ap, subst, arith}
-use Rattle.std.proofs.lemmas.Bool.{false≢true}
-use Rattle.std.specs.Prelude.{is_some}
-use Rattle.base_words.specs.Closing.{core_mode}
-use Rattle.link_ring.specs.Ends.{in_at}
+use Rattle.run_worker.proofs.Names.{ActsAsItMay, ap, arith, core_mode, false≢true, in_at, is_some, IsReady, IsServed, polls_of, subst, sym, ◌+◌, ◌∙◌, ◌≡◌}
 use Rattle.run_worker.proofs.Alone.{alone_grows}
 use Rattle.run_worker.proofs.Between.{between_behind}
-use Rattle.run_worker.specs.Rooms.{ActsAsItMay, IsReady}
-use Rattle.run_worker.specs.Ended.{IsServed}
 use Rattle.run_worker.proofs.Fewer.{looked_few, looked_none}
 use Rattle.run_worker.proofs.Serving.{shuts_served}
 use Rattle.run_worker.proofs.Spare.{least_along, places_more}
 use Rattle.run_worker.proofs.Telling.{looked_alone, looked_steps}
-use Rattle.run_worker.specs.Asks.{polls_of}
 use Rattle.run_worker.proofs.served.Served.shut_if_closed.Goals as goal
 
 pub invariant_of-self : goal.invariant_of-self

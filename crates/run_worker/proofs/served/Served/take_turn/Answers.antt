@@ -1,19 +1,13 @@
-use Rattle.std.proofs.Common.{◌≡◌, ◌+◌, ◌≤◌, length, refl, sym, ◌∙◌, ap, subst}
+use Rattle.run_worker.proofs.Names.{ap, is_turn, IsReady, length, MakesTurn, most_of_turn, NotesNoPoll, polls_of, refl, ServedView, StepsServed, subst, sym, turn_view, ◌+◌, ◌∙◌, ◌≡◌, ◌≤◌}
 use Rattle.run_worker.proofs.Alone.{alone_grows}
-use Rattle.run_worker.specs.Rooms.{IsReady}
 use Rattle.run_worker.proofs.Spare.{least_along, turn_room}
 use Rattle.run_worker.proofs.Serving.{turned_served}
-use Rattle.run_worker.specs.Ended.{ServedView}
-use Rattle.actor_seat.specs.Bursts.{MakesTurn, turn_view}
-use Rattle.run_worker.specs.Rounds.{StepsServed, is_turn}
 use Rattle.run_worker.proofs.Telling.{looked_steps}
 use Rattle.run_worker.proofs.Asking.{asks_between}
 use Rattle.run_worker.proofs.TurnAsks.{turn_asks}
 use Rattle.run_worker.proofs.TurnNotes.{turned_tells}
 use Rattle.run_worker.proofs.TurnRoom.{made_few}
-use Rattle.run_worker.specs.Few.{most_of_turn}
 use Rattle.run_worker.proofs.Fewer.{looked_few, most_along}
-use Rattle.run_worker.specs.Asks.{polls_of, NotesNoPoll}
 use Rattle.run_worker.proofs.served.Served.take_turn.Goals as goal
 
 pub turn-requires : goal.turn-requires

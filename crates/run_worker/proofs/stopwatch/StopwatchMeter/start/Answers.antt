@@ -1,6 +1,4 @@
-use Rattle.std.proofs.Common.{◌≡◌, ℕ, inl, inr, refl, subst}
-use Rattle.std.specs.Prelude.{Option, Some, None, IsSome, is_some, false}
-use Rattle.run_worker.specs.Readings.{TimesNext, WatchView, watch_view}
+use Rattle.run_worker.proofs.Names.{false, inl, inr, is_some, IsSome, None, Option, refl, Some, subst, TimesNext, watch_view, WatchView, ℕ, ◌≡◌}
 use Rattle.run_worker.proofs.stopwatch.StopwatchMeter.start.Goals as goal
 
 none_kept : (last : Option ℕ) → is_some last ≡ false → last ≡ None

@@ -1,10 +1,4 @@
-use Rattle.std.proofs.Common.{◌∙◌, ap, sym, subst}
-use Rattle.base_words.specs.Closing.{IsDrained}
-use Rattle.actor_seat.specs.Linked.{IsBetweenTurns, IsLinked}
-use Rattle.run_worker.specs.Passing.{HandsOn}
-use Rattle.actor_core.specs.Recorded.{IsRecorded}
-use Rattle.run_worker.specs.Shown.{IsShown, Shows, TellsAlone, shown_of}
-use Rattle.run_worker.specs.Workers.{WorkerView}
+use Rattle.run_worker.proofs.Names.{ap, HandsOn, IsBetweenTurns, IsDrained, IsLinked, IsRecorded, IsShown, shown_of, Shows, subst, sym, TellsAlone, WorkerView, ◌∙◌}
 use Rattle.run_worker.proofs.GivenBack.{given_back}
 use Rattle.run_worker.proofs.Published.{shown_now}
 use Rattle.run_worker.proofs.worker.Worker.into_ended.Goals as goal

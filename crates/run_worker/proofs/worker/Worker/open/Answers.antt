@@ -1,10 +1,5 @@
-use Rattle.std.proofs.Common.{◌≡◌, false, [], length, sym, ◌∙◌, ap, subst, arith}
-use Rattle.std.proofs.lemmas.Bool.{false≢true}
-use Rattle.std.specs.Prelude.{slice_index_or}
-use Rattle.actor_seat.specs.Bells.{BellView}
-use Rattle.run_watch.specs.declared.publisher.Publishing.{Publishing}
-use Rattle.run_worker.specs.Shown.{shown_of}
-use Rattle.actor_seat.specs.Opening.{IsOpenedOver}
+use Rattle.run_worker.proofs.Names.{ap, arith, BellView, false≢true, IsOpenedOver, length, Publishing, shown_of, slice_index_or, subst, sym, [], ◌∙◌, ◌≡◌}
+use Rattle.std.proofs.Common.{false}
 use Rattle.run_worker.proofs.Opened.{opened_places}
 use Rattle.run_worker.proofs.Published.{opened_shown}
 use Rattle.run_worker.proofs.Rung.{opened_rung}

@@ -1,9 +1,4 @@
-use Rattle.std.proofs.Common.{refl, sym, ◌∙◌, ap, subst}
-use Rattle.std.specs.Prelude.{false, true, is_none}
-use Rattle.run_worker.specs.Looks.{LooksAtAll, round_view}
-use Rattle.run_worker.specs.Passing.{IsSupplied}
-use Rattle.run_worker.specs.Workers.{WorkerView, served_of}
-use Rattle.actor_seat.proofs.Along.{runs_stays}
+use Rattle.run_worker.proofs.Names.{ap, false, is_none, IsSupplied, LooksAtAll, refl, round_view, runs_stays, served_of, subst, sym, true, WorkerView, ◌∙◌}
 use Rattle.run_worker.proofs.Published.{shown_runs}
 use Rattle.run_worker.proofs.Resting.{behind_asks, behind_runs, rests}
 use Rattle.run_worker.proofs.Supplied.{round_passes}

@@ -1,5 +1,4 @@
-use Rattle.std.proofs.Common.{◌∙◌, ap, subst}
-use Rattle.run_worker.specs.Serves.{ShowsEnd}
+use Rattle.run_worker.proofs.Names.{ap, ShowsEnd, subst, ◌∙◌}
 use Rattle.run_worker.proofs.ShownAgain.{again_same, asks_from, asks_to, end_same, runs_from, runs_to}
 use Rattle.run_worker.proofs.worker.Worker.serve.Goals as goal
 

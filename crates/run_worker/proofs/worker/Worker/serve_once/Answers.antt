@@ -1,7 +1,5 @@
-use Rattle.std.proofs.Common.{inl, inr, ◌∙◌, ap, subst}
-use Rattle.run_worker.specs.Serves.{GoesOn}
+use Rattle.run_worker.proofs.Names.{ap, GoesOn, inl, inr, runs_along, subst, ◌∙◌}
 use Rattle.run_worker.proofs.Asking.{asks_then}
-use Rattle.actor_seat.proofs.Along.{runs_along}
 use Rattle.run_worker.proofs.ShownAgain.{asks_from, now_same, runs_from}
 use Rattle.run_worker.proofs.worker.Worker.serve_once.Goals as goal
 

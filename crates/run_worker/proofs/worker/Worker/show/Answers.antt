@@ -1,5 +1,4 @@
-use Rattle.std.proofs.Common.{sym, subst}
-use Rattle.run_worker.specs.Shown.{IsShown, Shows, TellsAlone, shown_of}
+use Rattle.run_worker.proofs.Names.{IsShown, shown_of, Shows, subst, sym, TellsAlone}
 use Rattle.run_worker.proofs.Published.{shown_now}
 use Rattle.run_worker.proofs.worker.Worker.show.Goals as goal
 

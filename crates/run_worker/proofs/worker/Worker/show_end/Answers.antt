@@ -1,5 +1,4 @@
-use Rattle.std.proofs.Common.{inl, inr, refl, sym, ◌∙◌}
-use Rattle.std.proofs.lemmas.Bool.{false≢true}
+use Rattle.run_worker.proofs.Names.{false≢true, inl, inr, refl, sym, ◌∙◌}
 use Rattle.run_worker.proofs.worker.Worker.show_end.Goals as goal
 
 pub returns-then-was : goal.returns-then-was

@@ -1,11 +1,6 @@
-use Rattle.std.proofs.Common.{[], ◌∷◌, sym, ◌∙◌, ap, subst}
-use Rattle.run_worker.specs.Asks.{AsksSince, polls_of}
-use Rattle.actor_seat.specs.Linked.{RunsOn}
-use Rattle.run_worker.specs.Workers.{WorkerView}
-use Rattle.actor_seat.proofs.Along.{runs_along, runs_same}
+use Rattle.run_worker.proofs.Names.{ap, AsksSince, polls_of, runs_along, runs_same, RunsOn, shown_of, subst, sym, WorkerView, [], ◌∙◌, ◌∷◌}
 use Rattle.run_worker.proofs.Asking.{asks_none, asks_then}
 use Rattle.run_worker.proofs.Resting.{worker_of}
-use Rattle.run_worker.specs.Shown.{shown_of}
 use Rattle.run_worker.proofs.ShownAgain.{serves_board, shows_board}
 use Rattle.run_worker.proofs.Supplied.{hands_notes, hands_runs}
 use Rattle.run_worker.proofs.worker.WorkerWork.run.Goals as goal

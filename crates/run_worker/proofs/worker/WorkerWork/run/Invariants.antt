@@ -1,7 +1,4 @@
-use Rattle.std.proofs.Common.{◌≡◌}
-use Rattle.run_worker.specs.Asks.{AsksSince}
-use Rattle.actor_seat.specs.Linked.{RunsOn}
-use Rattle.run_worker.specs.Serves.{ServesOn}
+use Rattle.run_worker.proofs.Names.{AsksSince, RunsOn, ServesOn, ◌≡◌}
 use Rattle.run_worker.proofs.worker.WorkerWork.run.Given as goal
 
 abbrev pub invariant-loop : goal.invariant-loop
