@@ -5,6 +5,7 @@
 //! Reads the text of journals, and judges it line by line.
 #![tactic(auto)]
 
+pub mod byte_notes;
 mod draft;
 pub mod fault;
 pub mod field;
@@ -12,6 +13,9 @@ mod keeper;
 pub mod kind;
 pub mod laws;
 pub mod note;
+pub mod note_bytes;
+pub mod part;
+pub mod part_laws;
 pub mod phrase;
 pub mod read_laws;
 mod reader;
