@@ -5,6 +5,7 @@
 //! Reads the text of journals, and judges it line by line.
 #![tactic(auto)]
 
+mod byte_fields;
 pub mod byte_notes;
 mod draft;
 pub mod fault;

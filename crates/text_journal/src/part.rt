@@ -4,7 +4,8 @@ ghost use Rattle.std.specs.Prelude.{◌≡◌, ◌<◌, ◌++◌, ◌^◌, OnOk,
 ghost use Rattle.text_journal.specs.ByteNotes.{Gives};
 ghost use Rattle.text_journal.specs.Parts as spec;
 
-use crate::byte_notes::{byte_at, note_at, wide_at};
+use crate::byte_fields::{byte_at, wide_at};
+use crate::byte_notes::note_at;
 use crate::note_bytes::{note_size, put_note, put_wide};
 use base_words::{ActorNo, Note};
 use std::alloc::{AllocError, AllocFailed, Global};
