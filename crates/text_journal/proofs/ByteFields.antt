@@ -245,6 +245,3 @@ pub named_again : {B C : Type 0} (make : JobId → B → C) (read : Reader B) (n
     → both make name_at read ((name_bytes name ++ text) ++ rest) ≡ Some (make name b, rest)
 named_again make read name text rest b lt e =
     both_again make name_at read ((name_bytes name ++ text) ++ rest) name (text ++ rest) b rest (ap name_at (append_assoc (name_bytes name) text rest) ∙ name_again name (text ++ rest) lt) e
-
--- how many bytes numbers have
-pub ruleset sizes = (wide_length, short_length, length-append)

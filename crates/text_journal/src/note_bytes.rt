@@ -1,6 +1,6 @@
 //! Writes a note as bytes.
 
-ghost use Rattle.std.specs.Prelude.{◌≡◌, ◌++◌, ◌∷◌, ◌≤◌, OnOk, length};
+ghost use Rattle.std.specs.Prelude.{◌≡◌, ◌≤◌, ◌++◌, ◌∷◌, [], OnOk, length};
 ghost use Rattle.text_journal.specs.NoteBytes as spec;
 
 use base_words::{Answer, JobId, Mode, Note, Order, OutcomeNote, QueueNo, Reason, Shares};
@@ -239,7 +239,7 @@ fn put_outcome(
 }
 
 /// How many bytes a note has: at most 27.
-#[tactic(auto, using(crate::proofs::ByteFields::sizes))]
+#[tactic(auto, unfolding(crate::specs::NoteBytes::wide, crate::specs::NoteBytes::short))]
 pub(crate) fn note_size(note: Note<u64>) -> u64
     ensures value { result ≡ length (spec.note_bytes note) }
     ensures most { result ≤ 27 }
@@ -260,6 +260,7 @@ pub(crate) fn note_size(note: Note<u64>) -> u64
     }
 }
 
+#[tactic(auto, unfolding(crate::specs::NoteBytes::wide, crate::specs::NoteBytes::short))]
 fn order_size(order: Order<()>) -> u64
     ensures value { result ≡ length (spec.order_bytes order) }
     ensures most { result ≤ 10 }
@@ -284,6 +285,7 @@ fn answer_size(answer: Answer) -> u64
     }
 }
 
+#[tactic(auto, unfolding(crate::specs::NoteBytes::wide, crate::specs::NoteBytes::short))]
 fn outcome_size(outcome: OutcomeNote<u64>) -> u64
     ensures value { result ≡ length (spec.outcome_bytes outcome) }
     ensures most { result ≤ 9 }
