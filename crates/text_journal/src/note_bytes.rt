@@ -60,8 +60,77 @@ pub(crate) fn put_short(number: u16, out: &mut Vec<u8>) -> Result<(), AllocError
 fn put_name(kind: u8, name: JobId, out: &mut Vec<u8>) -> Result<(), AllocError>
     ensures { OnOk result (out.new.items ≡ out.old.items ++ kind ∷ spec.name_bytes name) }
 {
-    out.extend_from_slice(&[kind, name.from.0, name.to.0])?;
-    put_wide(name.number, out)
+    out.extend_from_slice(&named(kind, name))
+}
+
+/// A kind, and a name.
+#[tactic(auto, unfolding(crate::specs::NoteBytes::wide))]
+fn named(kind: u8, name: JobId) -> [u8; 11]
+    ensures { result ≡ kind ∷ spec.name_bytes name }
+{
+    let from = name.from.0;
+    let to = name.to.0;
+    let number = name.number.to_le_bytes();
+    [
+        kind, from, to, number[0], number[1], number[2], number[3], number[4], number[5],
+        number[6], number[7],
+    ]
+}
+
+/// A kind, a name and a byte.
+#[tactic(auto, unfolding(crate::specs::NoteBytes::wide))]
+fn with_byte(kind: u8, name: JobId, byte: u8) -> [u8; 12]
+    ensures { result ≡ kind ∷ (spec.name_bytes name ++ byte ∷ []) }
+{
+    let from = name.from.0;
+    let to = name.to.0;
+    let number = name.number.to_le_bytes();
+    [
+        kind, from, to, number[0], number[1], number[2], number[3], number[4], number[5],
+        number[6], number[7], byte,
+    ]
+}
+
+/// A kind, a name and two bytes.
+#[tactic(auto, unfolding(crate::specs::NoteBytes::wide))]
+fn with_two(kind: u8, name: JobId, first: u8, byte: u8) -> [u8; 13]
+    ensures { result ≡ kind ∷ (spec.name_bytes name ++ first ∷ byte ∷ []) }
+{
+    let from = name.from.0;
+    let to = name.to.0;
+    let number = name.number.to_le_bytes();
+    [
+        kind, from, to, number[0], number[1], number[2], number[3], number[4], number[5],
+        number[6], number[7], first, byte,
+    ]
+}
+
+/// A kind, a name and a time.
+#[tactic(auto, unfolding(crate::specs::NoteBytes::wide))]
+fn with_time(kind: u8, name: JobId, time: u64) -> [u8; 19]
+    ensures { result ≡ kind ∷ (spec.name_bytes name ++ spec.wide time) }
+{
+    let from = name.from.0;
+    let to = name.to.0;
+    let number = name.number.to_le_bytes();
+    let time = time.to_le_bytes();
+    [
+        kind, from, to, number[0], number[1], number[2], number[3], number[4], number[5],
+        number[6], number[7], time[0], time[1], time[2], time[3], time[4], time[5], time[6],
+        time[7],
+    ]
+}
+
+/// A kind, a byte and a number.
+#[tactic(auto, unfolding(crate::specs::NoteBytes::wide))]
+fn byte_wide(kind: u8, byte: u8, number: u64) -> [u8; 10]
+    ensures { result ≡ kind ∷ byte ∷ spec.wide number }
+{
+    let number = number.to_le_bytes();
+    [
+        kind, byte, number[0], number[1], number[2], number[3], number[4], number[5], number[6],
+        number[7],
+    ]
 }
 
 fn put_name_byte(
@@ -72,9 +141,7 @@ fn put_name_byte(
 ) -> Result<(), AllocError>
     ensures { OnOk result (out.new.items ≡ out.old.items ++ kind ∷ (spec.name_bytes name ++ byte ∷ [])) }
 {
-    put_name(kind, name, out)?;
-    out.push(byte)?;
-    Ok(())
+    out.extend_from_slice(&with_byte(kind, name, byte))
 }
 
 fn put_name_reason(
@@ -96,8 +163,7 @@ fn put_name_time(
 ) -> Result<(), AllocError>
     ensures { OnOk result (out.new.items ≡ out.old.items ++ kind ∷ (spec.name_bytes name ++ spec.wide time)) }
 {
-    put_name(kind, name, out)?;
-    put_wide(time, out)
+    out.extend_from_slice(&with_time(kind, name, time))
 }
 
 fn put_done(name: JobId, time: u64, value: u64, out: &mut Vec<u8>) -> Result<(), AllocError>
@@ -110,8 +176,7 @@ fn put_done(name: JobId, time: u64, value: u64, out: &mut Vec<u8>) -> Result<(),
 fn put_byte_wide(kind: u8, byte: u8, number: u64, out: &mut Vec<u8>) -> Result<(), AllocError>
     ensures { OnOk result (out.new.items ≡ out.old.items ++ kind ∷ byte ∷ spec.wide number) }
 {
-    out.extend_from_slice(&[kind, byte])?;
-    put_wide(number, out)
+    out.extend_from_slice(&byte_wide(kind, byte, number))
 }
 
 fn put_pick(queue: QueueNo, runtime: u128, out: &mut Vec<u8>) -> Result<(), AllocError>
@@ -202,7 +267,18 @@ fn put_byte(byte: u8, out: &mut Vec<u8>) -> Result<(), AllocError>
 fn put_sent(name: JobId, order: Order<()>, out: &mut Vec<u8>) -> Result<(), AllocError>
     ensures { OnOk result (out.new.items ≡ out.old.items ++ 0 ∷ (spec.name_bytes name ++ spec.order_bytes order)) }
 {
-    put_name(0, name, out)?;
+    match order {
+        Order::Job(queue, ()) => out.extend_from_slice(&with_two(0, name, 0, queue.0)),
+        _ => {
+            put_name(0, name, out)?;
+            put_order(order, out)
+        }
+    }
+}
+
+fn put_order(order: Order<()>, out: &mut Vec<u8>) -> Result<(), AllocError>
+    ensures { OnOk result (out.new.items ≡ out.old.items ++ spec.order_bytes order) }
+{
     match order {
         Order::Job(queue, ()) => out.extend_from_slice(&[0, queue.0]),
         Order::Create(shares) => {
