@@ -1,7 +1,13 @@
 -- Notes, parts and their bytes are one.
-use Rattle.std.proofs.Common.{◌≡◌, ℕ, zero, suc, ◌+◌, ◌%◌, ◌^◌, ◌<◌, List, [], ◌∷◌, ◌++◌, refl, sym, ap, ◌∙◌, arith}
+use Rattle.std.proofs.Common.{◌≡◌, ℕ, zero, suc, ◌+◌, ◌-◌, ◌%◌, ◌^◌, ◌<◌, ◌≤◌, List, [], ◌∷◌, ◌++◌, Option, Some, None, refl, sym, ap, ◌∙◌, append_assoc, arith}
 use Rattle.std.specs.List.{AllByRecursion}
-use Rattle.text_journal.specs.Parts.{sums_with, sums_behind, sums_of}
+use Rattle.std.proofs.lemmas.List.{append-nil}
+use Rattle.base_words.specs.declared.note.Note.{Note}
+use Rattle.text_journal.specs.BadParts.{BadPartsAreRefused}
+use Rattle.text_journal.specs.Fields.{◌>>=◌}
+use Rattle.text_journal.specs.NoteBytes.{wide, short}
+use Rattle.text_journal.specs.ByteNotes.{note_at, wide_at, short_at}
+use Rattle.text_journal.specs.Parts.{sums_with, sums_behind, sums_of, head_at, notes_at, part_at}
 use Rattle.text_journal.specs.PartLaws.{NoteIsReadBack, OnlyNotesAreRead, PartIsReadBack, OnlyPartsAreRead, SumsTellBytes}
 use Rattle.text_journal.proofs.ByteFields.{IsBytes}
 use Rattle.text_journal.proofs.ByteNotes.{note_taken, note_again}
@@ -54,3 +60,52 @@ sums_tell front rest one other h k e =
     let s = sums_of front in
     let told = state_told (sums_with s one) (sums_with s other) rest (with_below s one) (with_below s other) (sym (sums-append (0, 0) front (one ∷ rest)) ∙ e ∙ sums-append (0, 0) front (other ∷ rest)) in
     byte_added s.0 one other h k told.0
+
+-- ---- the small cases are refused: each computes
+
+pub refused : BadPartsAreRefused
+unfolding wide short wide_at short_at sums_behind head_at notes_at part_at
+refused = record {
+  last_note_lost = refl;
+  last_note_and_bytes_lost = refl;
+  note_twice = refl;
+  no_note = refl;
+  other_note = refl;
+  other_actor = refl;
+  cut_in_sums = refl;
+  cut_in_head = refl;
+  empty = refl;
+  other_version = refl;
+}
+
+-- ---- reading notes one behind the other, as a loop does
+
+-- what was read before, and what is still read
+abbrev pub with_front : List (Note ℕ) → Option (List (Note ℕ) × List ℕ) → Option (List (Note ℕ) × List ℕ)
+with_front front read = read >>= λ x. Some (front ++ x.0, x.1)
+
+regroup : (front : List (Note ℕ)) (n : Note ℕ) (read : Option (List (Note ℕ) × List ℕ)) → with_front front (read >>= λ x. Some (n ∷ x.0, x.1)) ≡ with_front (front ++ n ∷ []) read
+regroup front n (Some x) = ap (λ (ns : List (Note ℕ)). Some (ns, x.1)) (sym (append_assoc front (n ∷ []) x.0))
+regroup front n None = refl
+
+pub goes_on : (front : List (Note ℕ)) (count i : ℕ) (bytes : List ℕ) (n : Note ℕ) (after : List ℕ) (total : Option (List (Note ℕ) × List ℕ)) → i < count → note_at bytes ≡ Some (n, after)
+    → with_front front (notes_at (count - i) bytes) ≡ total → with_front (front ++ n ∷ []) (notes_at (count - (i + 1)) after) ≡ total
+unfolding notes_at
+goes_on front count i bytes n after total lt h so_far =
+    let k : count - i ≡ suc (count - (i + 1)) = omega arith in
+    let one : notes_at (suc (count - (i + 1))) bytes ≡ (notes_at (count - (i + 1)) after >>= λ x. Some (n ∷ x.0, x.1)) =
+        ap (λ (o : Option (Note ℕ × List ℕ)). o >>= λ a. notes_at (count - (i + 1)) a.1 >>= λ x. Some (a.0 ∷ x.0, x.1)) h in
+    sym (regroup front n (notes_at (count - (i + 1)) after)) ∙ ap (with_front front) (sym one) ∙ ap (λ (m : ℕ). with_front front (notes_at m bytes)) (sym k) ∙ so_far
+
+pub ends : (front : List (Note ℕ)) (count i : ℕ) (bytes : List ℕ) (total : Option (List (Note ℕ) × List ℕ)) → i < count → note_at bytes ≡ None
+    → with_front front (notes_at (count - i) bytes) ≡ total → total ≡ None
+unfolding notes_at
+ends front count i bytes total lt h so_far =
+    let k : count - i ≡ suc (count - (i + 1)) = omega arith in
+    sym so_far ∙ ap (λ (m : ℕ). with_front front (notes_at m bytes)) k ∙ ap (λ (o : Option (Note ℕ × List ℕ)). with_front front (o >>= λ a. notes_at (count - (i + 1)) a.1 >>= λ x. Some (a.0 ∷ x.0, x.1))) h
+
+pub is_done : (front : List (Note ℕ)) (count i : ℕ) (bytes : List ℕ) (total : Option (List (Note ℕ) × List ℕ)) → count ≤ i → with_front front (notes_at (count - i) bytes) ≡ total → total ≡ Some (front, bytes)
+unfolding notes_at
+is_done front count i bytes total le so_far =
+    let k : count - i ≡ 0 = omega arith in
+    sym so_far ∙ ap (λ (m : ℕ). with_front front (notes_at m bytes)) k ∙ ap (λ (ns : List (Note ℕ)). Some (ns, bytes)) (append-nil front)

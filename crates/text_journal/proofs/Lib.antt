@@ -31,5 +31,3 @@ pub mod ByteFields
 pub mod ByteNotes
 pub mod ByteParts
 pub mod ByteLaws
-pub mod PartsRefused
-pub mod ByteLoops

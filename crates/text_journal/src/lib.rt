@@ -16,7 +16,6 @@ pub mod laws;
 pub mod note;
 pub mod note_bytes;
 pub mod part;
-pub mod part_laws;
 pub mod phrase;
 pub mod read_laws;
 mod reader;

@@ -1,6 +1,6 @@
 use Rattle.std.proofs.Common.{◌≡◌, ◌-◌}
 use Rattle.text_journal.specs.Parts.{notes_at}
-use Rattle.text_journal.proofs.ByteLoops.{with_front}
+use Rattle.text_journal.proofs.ByteLaws.{with_front}
 use Rattle.text_journal.proofs.part.notes_at.Given as goal
 
 -- the notes so far and those that are read of the rest are those of all bytes
