@@ -1,13 +1,18 @@
 -- Notes, parts and their bytes are one.
-use Rattle.std.proofs.Common.{◌≡◌, ℕ, zero, suc, ◌+◌, ◌-◌, ◌%◌, ◌^◌, ◌<◌, ◌≤◌, List, [], ◌∷◌, ◌++◌, Option, Some, None, refl, sym, ap, ◌∙◌, append_assoc, arith}
+use Rattle.std.proofs.Common.{◌≡◌, ℕ, zero, suc, ◌+◌, ◌-◌, ◌%◌, ◌^◌, ◌<◌, ◌≤◌, List, [], ◌∷◌, ◌++◌, Option, Some, None, refl, sym, ap, subst, ◌∙◌, append_assoc, arith}
 use Rattle.std.specs.List.{AllByRecursion}
-use Rattle.std.proofs.lemmas.List.{append-nil}
+use Rattle.std.proofs.lemmas.List.{append-nil, map_push}
+use Rattle.std.proofs.lemmas.List.Concat.{flat_map-cons}
+use Rattle.std.proofs.lemmas.Grind.{flat_map-append}
+use Rattle.std.specs.Prelude.{Result, Ok, Err, IfOk, map}
 use Rattle.base_words.specs.declared.note.Note.{Note}
 use Rattle.text_journal.specs.BadParts.{BadPartsAreRefused}
 use Rattle.text_journal.specs.Fields.{◌>>=◌}
 use Rattle.text_journal.specs.NoteBytes.{wide, short}
 use Rattle.text_journal.specs.ByteNotes.{note_at, wide_at, short_at}
-use Rattle.text_journal.specs.Parts.{sums_with, sums_behind, sums_of, head_at, notes_at, part_at}
+use Rattle.text_journal.specs.declared.part.Part.{Part}
+use Rattle.text_journal.specs.declared.part.PartError.{PartError}
+use Rattle.text_journal.specs.Parts.{PartView, sums_with, sums_behind, sums_of, head_at, notes_at, part_at, part_bytes, part_seen, parts_bytes, GivesPart, ReadsParts}
 use Rattle.text_journal.specs.PartLaws.{NoteIsReadBack, OnlyNotesAreRead, PartIsReadBack, OnlyPartsAreRead, SumsTellBytes}
 use Rattle.text_journal.proofs.ByteFields.{IsBytes}
 use Rattle.text_journal.proofs.ByteNotes.{note_taken, note_again}
@@ -109,3 +114,27 @@ unfolding notes_at
 is_done front count i bytes total le so_far =
     let k : count - i ≡ 0 = omega arith in
     sym so_far ∙ ap (λ (m : ℕ). with_front front (notes_at m bytes)) k ∙ ap (λ (ns : List (Note ℕ)). Some (ns, bytes)) (append-nil front)
+
+-- ---- parts one behind the other
+
+pub part_found : {X : Type 0} (view : X → PartView × List ℕ) (bytes : List ℕ) (read : Result X PartError) → IsBytes bytes → GivesPart view read (part_at bytes)
+    → IfOk read (λ x. bytes ≡ part_bytes (view x).0 ++ (view x).1)
+part_found view bytes (Ok x) fits given = part_taken bytes (view x) fits given
+part_found view bytes (Err error) fits given = tt
+
+pub reads_more : (bytes : List ℕ) (old new : List Part) (rest : List ℕ) (part : Part) (after : List ℕ) → ReadsParts bytes old new rest → rest ≡ part_bytes (part_seen part) ++ after
+    → ReadsParts bytes old (new ++ part ∷ []) after
+reads_more bytes old new rest part after so_far same =
+    let one : parts_bytes (so_far.read ++ part_seen part ∷ []) ≡ parts_bytes so_far.read ++ part_bytes (part_seen part) =
+        flat_map-append part_bytes so_far.read (part_seen part ∷ []) ∙ ap (λ (x : List ℕ). parts_bytes so_far.read ++ x) (flat_map-cons part_bytes (part_seen part) [] ∙ append-nil (part_bytes (part_seen part))) in
+    record {
+      read = so_far.read ++ part_seen part ∷ [];
+      kept = map_push part_seen new part ∙ ap (λ (x : List PartView). x ++ part_seen part ∷ []) so_far.kept ∙ append_assoc (map part_seen old) so_far.read (part_seen part ∷ []);
+      whole = so_far.whole ∙ ap (λ (x : List ℕ). parts_bytes so_far.read ++ x) same ∙ sym (append_assoc (parts_bytes so_far.read) (part_bytes (part_seen part)) after) ∙ ap (λ (x : List ℕ). x ++ after) (sym one);
+    }
+
+pub reads_none : (bytes : List ℕ) (old : List Part) → ReadsParts bytes old old bytes
+reads_none bytes old = record { read = []; kept = sym (append-nil (map part_seen old)); whole = refl }
+
+pub ends_empty : (bytes : List ℕ) (old new : List Part) (rest : List ℕ) → rest ≡ [] → ReadsParts bytes old new rest → ReadsParts bytes old new []
+ends_empty bytes old new rest none read = subst (λ (r : List ℕ). ReadsParts bytes old new r) none read

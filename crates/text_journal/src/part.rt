@@ -1,6 +1,6 @@
 //! Parts of a journal as bytes.
 
-ghost use Rattle.std.specs.Prelude.{◌≡◌, ◌<◌, ◌++◌, ◌^◌, OnOk, drop, length};
+ghost use Rattle.std.specs.Prelude.{◌≡◌, ◌<◌, ◌++◌, ◌^◌, [], IfErr, IfOk, OnOk, drop, length};
 ghost use Rattle.text_journal.specs.ByteNotes.{Gives};
 ghost use Rattle.text_journal.specs.Parts as spec;
 
@@ -33,6 +33,15 @@ pub enum PartError {
     Faulty(PartCause),
 }
 
+/// Why parts are not read to their end.
+#[derive(Clone, Copy, PartialEq, Eq, Debug)]
+pub enum PartsError {
+    /// There is no memory.
+    Memory,
+    /// From this byte on no part stands, for this cause.
+    Faulty(u64, PartCause),
+}
+
 /// Whose notes they are, how many notes of that actor came before, how many they are, and how many bytes they have.
 #[derive(Clone, Copy)]
 pub struct Head {
@@ -59,6 +68,34 @@ impl<T: Drop> From<AllocFailed<T>> for PartError {
     fn from(_failed: AllocFailed<T>) -> PartError {
         PartError::Memory
     }
+}
+
+/// Reads parts that stand one behind the other, to the end of the bytes, and adds them to others.
+///
+/// # Errors
+///
+/// `Faulty` with the first byte from which on no part stands, or `Memory`. The parts before it are added.
+pub fn read_parts(alloc: Global, bytes: &[u8], parts: &mut Vec<Part>) -> Result<(), PartsError>
+    ensures ok { OnOk result (spec.ReadsParts bytes.now parts.old.items parts.new.items []) }
+    ensures err { IfErr result (λ error. spec.StopsAt error bytes.now parts.old.items parts.new.items) }
+{
+    let mut rest = bytes;
+    while !rest.is_empty() {
+        match part_at(alloc, rest) {
+            Ok((part, after)) => {
+                if parts.push(part).is_err() {
+                    return Err(PartsError::Memory);
+                }
+                rest = after;
+            }
+            Err(PartError::Memory) => return Err(PartsError::Memory),
+            Err(PartError::Faulty(cause)) => {
+                let place = (bytes.len() - rest.len()) as u64;
+                return Err(PartsError::Faulty(place, cause));
+            }
+        }
+    }
+    Ok(())
 }
 
 /// Puts a part behind the bytes of a vector. It asks for no memory if the vector has room. Behind an `Err` the vector's end says nothing.
@@ -184,8 +221,15 @@ fn notes_at(
 /// # Errors
 ///
 /// The first thing that is wrong with it, or `Memory`.
-#[tactic(auto, unfolding(crate::specs::Parts::part_at))]
 pub fn part_at(alloc: Global, bytes: &[u8]) -> Result<(Part, &[u8]), PartError>
+    ensures exact { spec.GivesPart (λ x. (spec.part_seen x.0, x.1.now)) result (spec.part_at bytes.now) }
+    ensures found { IfOk result (λ x. bytes.now ≡ spec.part_bytes (spec.part_seen x.0) ++ x.1.now) }
+{
+    part_in(alloc, bytes)
+}
+
+#[tactic(auto, unfolding(crate::specs::Parts::part_at))]
+fn part_in(alloc: Global, bytes: &[u8]) -> Result<(Part, &[u8]), PartError>
     ensures { spec.GivesPart (λ x. (spec.part_seen x.0, x.1.now)) result (spec.part_at bytes.now) }
 {
     if bytes.len() < 29 {
