@@ -214,7 +214,7 @@ runtime_again runtime rest lt =
     let low : runtime % 2 ^ 64 < 2 ^ 64 = omega arith in
     let high : runtime / 2 ^ 64 < 2 ^ 64 = omega arith in
     both_again (λ low high. high * 2 ^ 64 + low) wide_at wide_at (runtime_bytes runtime ++ rest) (runtime % 2 ^ 64) (wide (runtime / 2 ^ 64) ++ rest) (runtime / 2 ^ 64) rest
-        (ap wide_at (append_assoc (wide (runtime % 2 ^ 64)) (wide (runtime / 2 ^ 64)) rest) ∙ wide_again (runtime % 2 ^ 64) (wide (runtime / 2 ^ 64) ++ rest) low) (wide_again (runtime / 2 ^ 64) rest high)
+    (ap wide_at (append_assoc (wide (runtime % 2 ^ 64)) (wide (runtime / 2 ^ 64)) rest) ∙ wide_again (runtime % 2 ^ 64) (wide (runtime / 2 ^ 64) ++ rest) low) (wide_again (runtime / 2 ^ 64) rest high)
     ∙ ap (λ (n : ℕ). Some (n, rest)) whole
 
 pub runtime_taken : IsTaken runtime_bytes runtime_at

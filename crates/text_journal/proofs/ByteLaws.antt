@@ -16,7 +16,7 @@ use Rattle.text_journal.specs.Parts.{PartView, sums_with, sums_behind, sums_of, 
 use Rattle.text_journal.specs.PartLaws.{NoteIsReadBack, OnlyNotesAreRead, PartIsReadBack, OnlyPartsAreRead, SumsTellBytes}
 use Rattle.text_journal.proofs.ByteFields.{IsBytes}
 use Rattle.text_journal.proofs.ByteNotes.{note_taken, note_again}
-use Rattle.text_journal.proofs.ByteParts.{part_taken, part_again, sums-append, sums_below}
+use Rattle.text_journal.proofs.ByteParts.{part_taken, part_again, sums-append}
 
 bytes_are : (bytes : List ℕ) → AllByRecursion (λ byte. byte < 256) bytes → IsBytes bytes
 bytes_are [] all i = omega arith
@@ -99,7 +99,7 @@ unfolding notes_at
 goes_on front count i bytes n after total lt h so_far =
     let k : count - i ≡ suc (count - (i + 1)) = omega arith in
     let one : notes_at (suc (count - (i + 1))) bytes ≡ (notes_at (count - (i + 1)) after >>= λ x. Some (n ∷ x.0, x.1)) =
-        ap (λ (o : Option (Note ℕ × List ℕ)). o >>= λ a. notes_at (count - (i + 1)) a.1 >>= λ x. Some (a.0 ∷ x.0, x.1)) h in
+    ap (λ (o : Option (Note ℕ × List ℕ)). o >>= λ a. notes_at (count - (i + 1)) a.1 >>= λ x. Some (a.0 ∷ x.0, x.1)) h in
     sym (regroup front n (notes_at (count - (i + 1)) after)) ∙ ap (with_front front) (sym one) ∙ ap (λ (m : ℕ). with_front front (notes_at m bytes)) (sym k) ∙ so_far
 
 pub ends : (front : List (Note ℕ)) (count i : ℕ) (bytes : List ℕ) (total : Option (List (Note ℕ) × List ℕ)) → i < count → note_at bytes ≡ None
@@ -126,7 +126,7 @@ pub reads_more : (bytes : List ℕ) (old new : List Part) (rest : List ℕ) (par
     → ReadsParts bytes old (new ++ part ∷ []) after
 reads_more bytes old new rest part after so_far same =
     let one : parts_bytes (so_far.read ++ part_seen part ∷ []) ≡ parts_bytes so_far.read ++ part_bytes (part_seen part) =
-        flat_map-append part_bytes so_far.read (part_seen part ∷ []) ∙ ap (λ (x : List ℕ). parts_bytes so_far.read ++ x) (flat_map-cons part_bytes (part_seen part) [] ∙ append-nil (part_bytes (part_seen part))) in
+    flat_map-append part_bytes so_far.read (part_seen part ∷ []) ∙ ap (λ (x : List ℕ). parts_bytes so_far.read ++ x) (flat_map-cons part_bytes (part_seen part) [] ∙ append-nil (part_bytes (part_seen part))) in
     record {
       read = so_far.read ++ part_seen part ∷ [];
       kept = map_push part_seen new part ∙ ap (λ (x : List PartView). x ++ part_seen part ∷ []) so_far.kept ∙ append_assoc (map part_seen old) so_far.read (part_seen part ∷ []);

@@ -1,5 +1,5 @@
 -- Notes as bytes: what is read is what was written, and what was written is read again.
-use Rattle.std.proofs.Common.{◌≡◌, ℕ, ◌+◌, ◌^◌, ◌<◌, ◌≤◌, List, [], ◌∷◌, ◌++◌, Some, refl, ap, ◌∙◌, append_assoc, arith}
+use Rattle.std.proofs.Common.{◌≡◌, ℕ, ◌^◌, ◌<◌, List, [], ◌∷◌, ◌++◌, Some, refl, ap, ◌∙◌, append_assoc, arith}
 use Rattle.base_words.specs.declared.names.JobId.{JobId}
 use Rattle.base_words.specs.declared.note.Note.{Note}
 use Rattle.base_words.specs.declared.note.Note.TheVariants as note
@@ -13,7 +13,6 @@ use Rattle.base_words.specs.declared.order.Order.{Order}
 use Rattle.base_words.specs.declared.order.Order.TheVariants as order
 use Rattle.base_words.specs.declared.order.Reason.{Reason}
 use Rattle.base_words.specs.declared.order.Reason.TheVariants as why
-use Rattle.base_words.specs.Limits.{last_number}
 use Rattle.base_words.specs.Orders.{IsSpelledOrder}
 use Rattle.base_words.specs.Spelled.{IsName, IsSpelledNote}
 use Rattle.base_words.specs.Terms.{Terms}
@@ -30,8 +29,13 @@ mode_again mode.Finish rest = refl
 mode_again mode.Return rest = refl
 
 reason_taken : IsTaken reason_bytes reason_at
-reason_taken = tagged_taken reason_bytes reasons (plain_taken (0 ∷ []) why.NoQueue reason_bytes refl, (plain_taken (1 ∷ []) why.QueueClosed reason_bytes refl,
-    (plain_taken (2 ∷ []) why.CoreClosing reason_bytes refl, (plain_taken (3 ∷ []) why.QueueReturned reason_bytes refl, (plain_taken (4 ∷ []) why.CoreReturned reason_bytes refl, tt)))))
+reason_taken = tagged_taken reason_bytes reasons (
+  plain_taken (0 ∷ []) why.NoQueue reason_bytes refl,
+  (
+    plain_taken (1 ∷ []) why.QueueClosed reason_bytes refl,
+    (plain_taken (2 ∷ []) why.CoreClosing reason_bytes refl, (plain_taken (3 ∷ []) why.QueueReturned reason_bytes refl, (plain_taken (4 ∷ []) why.CoreReturned reason_bytes refl, tt))),
+  ),
+)
 
 reason_again : (reason : Reason) (rest : List ℕ) → reason_at (reason_bytes reason ++ rest) ≡ Some (reason, rest)
 reason_again why.NoQueue rest = refl
@@ -41,10 +45,28 @@ reason_again why.QueueReturned rest = refl
 reason_again why.CoreReturned rest = refl
 
 answer_taken : IsTaken answer_bytes answer_at
-answer_taken = tagged_taken answer_bytes answers (one_taken (0 ∷ []) answer.Created byte_at (λ (byte : ℕ). byte ∷ []) answer_bytes byte_taken (λ queue. refl),
-    (plain_taken (1 ∷ []) answer.TooMany answer_bytes refl, (plain_taken (2 ∷ []) answer.NoMemory answer_bytes refl, (plain_taken (3 ∷ []) answer.CoreClosing answer_bytes refl,
-    (plain_taken (4 ∷ []) answer.SharesSet answer_bytes refl, (plain_taken (5 ∷ []) answer.NoQueue answer_bytes refl, (plain_taken (6 ∷ []) answer.Closed answer_bytes refl,
-    (plain_taken (7 ∷ []) answer.AlreadyClosed answer_bytes refl, (plain_taken (8 ∷ []) answer.Woken answer_bytes refl, (plain_taken (9 ∷ []) answer.NoJob answer_bytes refl, tt))))))))))
+answer_taken = tagged_taken answer_bytes answers (
+  one_taken (0 ∷ []) answer.Created byte_at (λ (byte : ℕ). byte ∷ []) answer_bytes byte_taken (λ queue. refl),
+  (
+    plain_taken (1 ∷ []) answer.TooMany answer_bytes refl,
+    (
+      plain_taken (2 ∷ []) answer.NoMemory answer_bytes refl,
+      (
+        plain_taken (3 ∷ []) answer.CoreClosing answer_bytes refl,
+        (
+          plain_taken (4 ∷ []) answer.SharesSet answer_bytes refl,
+          (
+            plain_taken (5 ∷ []) answer.NoQueue answer_bytes refl,
+            (
+              plain_taken (6 ∷ []) answer.Closed answer_bytes refl,
+              (plain_taken (7 ∷ []) answer.AlreadyClosed answer_bytes refl, (plain_taken (8 ∷ []) answer.Woken answer_bytes refl, (plain_taken (9 ∷ []) answer.NoJob answer_bytes refl, tt))),
+            ),
+          ),
+        ),
+      ),
+    ),
+  ),
+)
 
 answer_again : (told : Answer) (rest : List ℕ) → answer_at (answer_bytes told ++ rest) ≡ Some (told, rest)
 answer_again (answer.Created queue) rest = refl
@@ -59,12 +81,22 @@ answer_again answer.Woken rest = refl
 answer_again answer.NoJob rest = refl
 
 order_taken : IsTaken order_bytes order_at
-order_taken = tagged_taken order_bytes orders (one_taken (0 ∷ []) (λ queue. order.Job queue tt) byte_at (λ (byte : ℕ). byte ∷ []) order_bytes byte_taken (λ queue. refl),
-    (one_taken (1 ∷ []) order.Create weight_at short order_bytes weight_taken (λ weight. refl),
-    (both_taken (2 ∷ []) order.SetShares byte_at weight_at (λ (byte : ℕ). byte ∷ []) short order_bytes byte_taken weight_taken (λ queue weight. refl),
-    (both_taken (3 ∷ []) order.Close byte_at mode_at (λ (byte : ℕ). byte ∷ []) mode_bytes order_bytes byte_taken mode_taken (λ queue how. refl),
-    (one_taken (4 ∷ []) order.CloseCore mode_at mode_bytes order_bytes mode_taken (λ how. refl),
-    (both_taken (5 ∷ []) order.Wake byte_at wide_at (λ (byte : ℕ). byte ∷ []) wide order_bytes byte_taken wide_taken (λ actor number. refl), tt))))))
+order_taken = tagged_taken order_bytes orders (
+  one_taken (0 ∷ []) (λ queue. order.Job queue tt) byte_at (λ (byte : ℕ). byte ∷ []) order_bytes byte_taken (λ queue. refl),
+  (
+    one_taken (1 ∷ []) order.Create weight_at short order_bytes weight_taken (λ weight. refl),
+    (
+      both_taken (2 ∷ []) order.SetShares byte_at weight_at (λ (byte : ℕ). byte ∷ []) short order_bytes byte_taken weight_taken (λ queue weight. refl),
+      (
+        both_taken (3 ∷ []) order.Close byte_at mode_at (λ (byte : ℕ). byte ∷ []) mode_bytes order_bytes byte_taken mode_taken (λ queue how. refl),
+        (
+          one_taken (4 ∷ []) order.CloseCore mode_at mode_bytes order_bytes mode_taken (λ how. refl),
+          (both_taken (5 ∷ []) order.Wake byte_at wide_at (λ (byte : ℕ). byte ∷ []) wide order_bytes byte_taken wide_taken (λ actor number. refl), tt),
+        ),
+      ),
+    ),
+  ),
+)
 
 order_again : (sent : Order (Unit {0})) (rest : List ℕ) → IsSpelledOrder sent → HoldsOrder sent → order_at (order_bytes sent ++ rest) ≡ Some (sent, rest)
 order_again (order.Job queue job) rest s h = refl
@@ -77,9 +109,13 @@ order_again (order.Wake actor number) rest s h =
     both_again order.Wake byte_at wide_at (actor ∷ (wide number ++ rest)) actor (wide number ++ rest) number rest refl (wide_again number rest h.1)
 
 outcome_taken : IsTaken outcome_bytes outcome_at
-outcome_taken = tagged_taken outcome_bytes outcomes (one_taken (0 ∷ []) outcome.Finished wide_at wide outcome_bytes wide_taken (λ value. refl),
-    (one_taken (1 ∷ []) outcome.Returned reason_at reason_bytes outcome_bytes reason_taken (λ reason. refl),
-    (one_taken (2 ∷ []) outcome.Answered answer_at answer_bytes outcome_bytes answer_taken (λ told. refl), tt)))
+outcome_taken = tagged_taken outcome_bytes outcomes (
+  one_taken (0 ∷ []) outcome.Finished wide_at wide outcome_bytes wide_taken (λ value. refl),
+  (
+    one_taken (1 ∷ []) outcome.Returned reason_at reason_bytes outcome_bytes reason_taken (λ reason. refl),
+    (one_taken (2 ∷ []) outcome.Answered answer_at answer_bytes outcome_bytes answer_taken (λ told. refl), tt),
+  ),
+)
 
 outcome_again : (told : OutcomeNote ℕ) (rest : List ℕ) → HoldsOut told → outcome_at (outcome_bytes told ++ rest) ≡ Some (told, rest)
 outcome_again (outcome.Finished value) rest h = one_again outcome.Finished wide_at (wide value ++ rest) value rest (wide_again value rest h)
@@ -89,30 +125,73 @@ outcome_again (outcome.Answered told) rest h = one_again outcome.Answered answer
 -- ---- notes
 
 rows_taken : AreTaken note_bytes 0 notes
-rows_taken =
-    (both_taken (0 ∷ []) note.Sent name_at order_at name_bytes order_bytes note_bytes name_taken order_taken (λ a b. refl),
-    (both_taken (1 ∷ []) note.Took name_at byte_at name_bytes (λ (byte : ℕ). byte ∷ []) note_bytes name_taken byte_taken (λ a b. refl),
-    (both_taken (2 ∷ []) note.Back name_at reason_at name_bytes reason_bytes note_bytes name_taken reason_taken (λ a b. refl),
-    (both_taken (3 ∷ []) note.Answered name_at answer_at name_bytes answer_bytes note_bytes name_taken answer_taken (λ a b. refl),
-    (both_taken (4 ∷ []) note.Created byte_at weight_at (λ (byte : ℕ). byte ∷ []) short note_bytes byte_taken weight_taken (λ a b. refl),
-    (both_taken (5 ∷ []) note.SharesSet byte_at weight_at (λ (byte : ℕ). byte ∷ []) short note_bytes byte_taken weight_taken (λ a b. refl),
-    (both_taken (6 ∷ []) note.QueueClosed byte_at mode_at (λ (byte : ℕ). byte ∷ []) mode_bytes note_bytes byte_taken mode_taken (λ a b. refl),
-    (one_taken (7 ∷ []) note.CoreClosed mode_at mode_bytes note_bytes mode_taken (λ a. refl),
-    (one_taken (8 ∷ []) note.Woken name_at name_bytes note_bytes name_taken (λ a. refl),
-    (both_taken (9 ∷ []) note.Pick byte_at runtime_at (λ (byte : ℕ). byte ∷ []) runtime_bytes note_bytes byte_taken runtime_taken (λ a b. refl),
-    (one_taken (10 ∷ []) note.Start name_at name_bytes note_bytes name_taken (λ a. refl),
-    (one_taken (11 ∷ []) note.Resume name_at name_bytes note_bytes name_taken (λ a. refl),
-    (both_taken (12 ∷ []) note.Yield name_at wide_at name_bytes wide note_bytes name_taken wide_taken (λ a b. refl),
-    (both_taken (13 ∷ []) note.Park name_at wide_at name_bytes wide note_bytes name_taken wide_taken (λ a b. refl),
-    (both_taken (14 ∷ []) note.Stayed name_at wide_at name_bytes wide note_bytes name_taken wide_taken (λ a b. refl),
-    (both_taken (15 ∷ []) (λ name told. note.Done name told.0 told.1) name_at (both pair wide_at wide_at) name_bytes (λ (p : ℕ × ℕ). wide p.0 ++ wide p.1) note_bytes name_taken (pair_taken wide_at wide_at wide wide wide_taken wide_taken) (λ name told. refl),
-    (both_taken (16 ∷ []) note.Returned name_at reason_at name_bytes reason_bytes note_bytes name_taken reason_taken (λ a b. refl),
-    (both_taken (17 ∷ []) note.Turned byte_at wide_at (λ (byte : ℕ). byte ∷ []) wide note_bytes byte_taken wide_taken (λ a b. refl),
-    (both_taken (18 ∷ []) note.Shut byte_at wide_at (λ (byte : ℕ). byte ∷ []) wide note_bytes byte_taken wide_taken (λ a b. refl),
-    (both_taken (19 ∷ []) note.Collected name_at outcome_at name_bytes outcome_bytes note_bytes name_taken outcome_taken (λ a b. refl),
-    (both_taken (20 ∷ []) note.Redeemed name_at outcome_at name_bytes outcome_bytes note_bytes name_taken outcome_taken (λ a b. refl),
-    (one_taken (21 ∷ []) note.Detached name_at name_bytes note_bytes name_taken (λ a. refl),
-    tt))))))))))))))))))))))
+rows_taken = (
+  both_taken (0 ∷ []) note.Sent name_at order_at name_bytes order_bytes note_bytes name_taken order_taken (λ a b. refl),
+  (
+    both_taken (1 ∷ []) note.Took name_at byte_at name_bytes (λ (byte : ℕ). byte ∷ []) note_bytes name_taken byte_taken (λ a b. refl),
+    (
+      both_taken (2 ∷ []) note.Back name_at reason_at name_bytes reason_bytes note_bytes name_taken reason_taken (λ a b. refl),
+      (
+        both_taken (3 ∷ []) note.Answered name_at answer_at name_bytes answer_bytes note_bytes name_taken answer_taken (λ a b. refl),
+        (
+          both_taken (4 ∷ []) note.Created byte_at weight_at (λ (byte : ℕ). byte ∷ []) short note_bytes byte_taken weight_taken (λ a b. refl),
+          (
+            both_taken (5 ∷ []) note.SharesSet byte_at weight_at (λ (byte : ℕ). byte ∷ []) short note_bytes byte_taken weight_taken (λ a b. refl),
+            (
+              both_taken (6 ∷ []) note.QueueClosed byte_at mode_at (λ (byte : ℕ). byte ∷ []) mode_bytes note_bytes byte_taken mode_taken (λ a b. refl),
+              (
+                one_taken (7 ∷ []) note.CoreClosed mode_at mode_bytes note_bytes mode_taken (λ a. refl),
+                (
+                  one_taken (8 ∷ []) note.Woken name_at name_bytes note_bytes name_taken (λ a. refl),
+                  (
+                    both_taken (9 ∷ []) note.Pick byte_at runtime_at (λ (byte : ℕ). byte ∷ []) runtime_bytes note_bytes byte_taken runtime_taken (λ a b. refl),
+                    (
+                      one_taken (10 ∷ []) note.Start name_at name_bytes note_bytes name_taken (λ a. refl),
+                      (
+                        one_taken (11 ∷ []) note.Resume name_at name_bytes note_bytes name_taken (λ a. refl),
+                        (
+                          both_taken (12 ∷ []) note.Yield name_at wide_at name_bytes wide note_bytes name_taken wide_taken (λ a b. refl),
+                          (
+                            both_taken (13 ∷ []) note.Park name_at wide_at name_bytes wide note_bytes name_taken wide_taken (λ a b. refl),
+                            (
+                              both_taken (14 ∷ []) note.Stayed name_at wide_at name_bytes wide note_bytes name_taken wide_taken (λ a b. refl),
+                              (
+                                both_taken (15 ∷ []) (λ name told. note.Done name told.0 told.1) name_at (both pair wide_at wide_at) name_bytes (λ (p : ℕ × ℕ). wide p.0 ++ wide p.1) note_bytes name_taken (pair_taken wide_at wide_at wide wide wide_taken wide_taken) (λ name told. refl),
+                                (
+                                  both_taken (16 ∷ []) note.Returned name_at reason_at name_bytes reason_bytes note_bytes name_taken reason_taken (λ a b. refl),
+                                  (
+                                    both_taken (17 ∷ []) note.Turned byte_at wide_at (λ (byte : ℕ). byte ∷ []) wide note_bytes byte_taken wide_taken (λ a b. refl),
+                                    (
+                                      both_taken (18 ∷ []) note.Shut byte_at wide_at (λ (byte : ℕ). byte ∷ []) wide note_bytes byte_taken wide_taken (λ a b. refl),
+                                      (
+                                        both_taken (19 ∷ []) note.Collected name_at outcome_at name_bytes outcome_bytes note_bytes name_taken outcome_taken (λ a b. refl),
+                                        (
+                                          both_taken (20 ∷ []) note.Redeemed name_at outcome_at name_bytes outcome_bytes note_bytes name_taken outcome_taken (λ a b. refl),
+                                          (
+                                            one_taken (21 ∷ []) note.Detached name_at name_bytes note_bytes name_taken (λ a. refl),
+                                            tt,
+                                          ),
+                                        ),
+                                      ),
+                                    ),
+                                  ),
+                                ),
+                              ),
+                            ),
+                          ),
+                        ),
+                      ),
+                    ),
+                  ),
+                ),
+              ),
+            ),
+          ),
+        ),
+      ),
+    ),
+  ),
+)
 
 pub note_taken : IsTaken note_bytes note_at
 note_taken = tagged_taken note_bytes notes rows_taken

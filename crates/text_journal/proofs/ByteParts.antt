@@ -1,6 +1,6 @@
 -- Parts as bytes: what is read is what was written, and what was written is read again.
-use Rattle.std.proofs.Common.{◌≡◌, ℕ, zero, suc, ◌+◌, ◌%◌, ◌^◌, ◌<◌, ◌≤◌, ◌==◌, ◌&&◌, Bool, true, false, cond, ltb, eqb, List, [], ◌∷◌, ◌++◌, length, take, drop, Option, Some, None, Result, Ok, Err, refl, sym, ap, subst, ◌∙◌, append_assoc, arith}
-use Rattle.std.specs.List.{flat_map, AllByRecursion}
+use Rattle.std.proofs.Common.{◌≡◌, ℕ, zero, suc, ◌+◌, ◌^◌, ◌<◌, ◌≤◌, ◌&&◌, Bool, true, false, cond, ltb, eqb, List, [], ◌∷◌, ◌++◌, length, take, drop, Option, Some, None, Result, Ok, Err, refl, sym, ap, subst, ◌∙◌, append_assoc, arith}
+use Rattle.std.specs.List.{AllByRecursion}
 use Rattle.std.specs.Str.{bytes_eq}
 use Rattle.std.proofs.lemmas.Bool.{ltb-false, le-ltb, eqb-true}
 use Rattle.std.proofs.lemmas.List.{append-nil, nil_from_length, take_at, drop_at, take-append-drop, length-append, length-take}
@@ -40,9 +40,9 @@ unfolding head_at
 head_again head rest has =
     let counts = wide head.before ++ (wide head.count ++ wide head.size) in
     both_again head_with byte_at counts_at (head_bytes head ++ rest) head.actor (counts ++ rest) (head.before, (head.count, head.size)) rest refl
-        (both_again pair wide_at (both pair wide_at wide_at) (counts ++ rest) head.before ((wide head.count ++ wide head.size) ++ rest) (head.count, head.size) rest
-            (ap wide_at (append_assoc (wide head.before) (wide head.count ++ wide head.size) rest) ∙ wide_again head.before ((wide head.count ++ wide head.size) ++ rest) has.before)
-            (two_again head.count head.size rest has.count has.size))
+    (both_again pair wide_at (both pair wide_at wide_at) (counts ++ rest) head.before ((wide head.count ++ wide head.size) ++ rest) (head.count, head.size) rest
+    (ap wide_at (append_assoc (wide head.before) (wide head.count ++ wide head.size) rest) ∙ wide_again head.before ((wide head.count ++ wide head.size) ++ rest) has.before)
+    (two_again head.count head.size rest has.count has.size))
 
 head_length : (head : Head) → length (head_bytes head) ≡ 25
 unfolding wide
@@ -151,8 +151,8 @@ body_taken sums head bytes y fits e =
     let size-is : head.size ≡ length body = omega (arith, length-take head.size bytes) in
     let told : sums_bytes s.0.0 ≡ sums_bytes (sums_behind sums body) = ap (λ (n : ℕ). wide n ++ wide s.0.0.1) s.2 ∙ ap (λ (n : ℕ). wide (sums_behind sums body).0 ++ wide n) s.3 in
     let whole : bytes ≡ body ++ (sums_bytes (sums_behind sums body) ++ y.1) =
-        sym (take-append-drop head.size bytes) ∙ ap (λ (w : List ℕ). body ++ w) t.parts ∙ ap (λ (w : List ℕ). body ++ (w ++ s.0.1)) told
-        ∙ ap (λ (z : PartView × List ℕ). body ++ (sums_bytes (sums_behind sums body) ++ z.1)) (sym n.2) in
+    sym (take-append-drop head.size bytes) ∙ ap (λ (w : List ℕ). body ++ w) t.parts ∙ ap (λ (w : List ℕ). body ++ (w ++ s.0.1)) told
+    ∙ ap (λ (z : PartView × List ℕ). body ++ (sums_bytes (sums_behind sums body) ++ z.1)) (sym n.2) in
     (n.0, sym u.1, size-is ∙ ap length body-is, whole ∙ ap (λ (b : List ℕ). b ++ (sums_bytes (sums_behind sums b) ++ y.1)) body-is, ap (λ (z : PartView × List ℕ). z.0) n.2)
 
 pub part_taken : (bytes : List ℕ) (y : PartView × List ℕ) → IsBytes bytes → part_at bytes ≡ Ok y → bytes ≡ part_bytes y.0 ++ y.1
@@ -169,14 +169,14 @@ part_taken bytes y fits e =
     let first = mark ++ head_bytes head in
     let marked : take 4 bytes ≡ mark = same_bytes _ _ k.0 in
     let whole : bytes ≡ first ++ h.0.1 =
-        sym (take-append-drop 4 bytes) ∙ ap (λ (x : List ℕ). x ++ drop 4 bytes) marked ∙ ap (λ (x : List ℕ). mark ++ x) t.parts ∙ sym (append_assoc mark (head_bytes head) h.0.1) in
+    sym (take-append-drop 4 bytes) ∙ ap (λ (x : List ℕ). x ++ drop 4 bytes) marked ∙ ap (λ (x : List ℕ). mark ++ x) t.parts ∙ sym (append_assoc mark (head_bytes head) h.0.1) in
     let long : length first ≡ 29 = omega (arith, length-append mark (head_bytes head), head_length head) in
     let front : take 29 bytes ≡ first = ap (take 29) whole ∙ take_at first h.0.1 29 long in
     let head-is : head ≡ head_of (part_of head notes) = head_is head (length notes) (length (body_bytes notes)) b.1 b.2 in
     let front-is : first ++ body_bytes notes ≡ front_bytes (part_of head notes) =
-        append_assoc mark (head_bytes head) (body_bytes notes) ∙ ap (λ (h : Head). mark ++ (head_bytes h ++ body_bytes notes)) head-is in
+    append_assoc mark (head_bytes head) (body_bytes notes) ∙ ap (λ (h : Head). mark ++ (head_bytes h ++ body_bytes notes)) head-is in
     let sums-is : sums_behind (sums_of (take 29 bytes)) (body_bytes notes) ≡ sums_of (front_bytes (part_of head notes)) =
-        ap (λ (x : List ℕ). sums_behind (sums_of x) (body_bytes notes)) front ∙ sym (sums-append (0, 0) first (body_bytes notes)) ∙ ap (λ (x : List ℕ). sums_of x) front-is in
+    ap (λ (x : List ℕ). sums_behind (sums_of x) (body_bytes notes)) front ∙ sym (sums-append (0, 0) first (body_bytes notes)) ∙ ap (λ (x : List ℕ). sums_of x) front-is in
     let told = sums_bytes (sums_behind (sums_of (take 29 bytes)) (body_bytes notes)) in
     whole ∙ ap (λ (x : List ℕ). first ++ x) b.3 ∙ sym (append_assoc first (body_bytes notes) (told ++ y.1)) ∙ ap (λ (x : List ℕ). x ++ (told ++ y.1)) front-is
     ∙ ap (λ (s : ℕ × ℕ). front_bytes (part_of head notes) ++ (sums_bytes s ++ y.1)) sums-is
@@ -196,7 +196,7 @@ bodied_again terms sums part rest all h k =
     let head = head_of part in
     let bytes = body ++ (sums_bytes s ++ rest) in
     let enough : ltb (length bytes) (length body + 16) ≡ false =
-        le-ltb _ _ (omega (arith, length-append body (sums_bytes s ++ rest), length-append (sums_bytes s) rest, length-append (wide s.0) (wide s.1), wide_length s.0, wide_length s.1)) in
+    le-ltb _ _ (omega (arith, length-append body (sums_bytes s ++ rest), length-append (sums_bytes s) rest, length-append (wide s.0) (wide s.1), wide_length s.0, wide_length s.1)) in
     let front : take (length body) bytes ≡ body = take_at body (sums_bytes s ++ rest) (length body) refl in
     let behind : drop (length body) bytes ≡ sums_bytes s ++ rest = drop_at body (sums_bytes s ++ rest) (length body) refl in
     let same : (eqb s.0 s.0 && eqb s.1 s.1) ≡ true = ap (λ (b : Bool). b && eqb s.1 s.1) (eqb-same s.0) ∙ eqb-same s.1 in
@@ -219,10 +219,10 @@ part_again terms part rest has =
     let behind = body ++ (sums_bytes (sums_behind (sums_of first) body) ++ rest) in
     let bytes = mark ++ (head_bytes head ++ behind) in
     let regrouped : part_bytes part ++ rest ≡ bytes =
-        append_assoc (front_bytes part) (sums_bytes (sums_of (front_bytes part))) rest
-        ∙ ap (λ (s : ℕ × ℕ). front_bytes part ++ (sums_bytes s ++ rest)) (sym sums-is)
-        ∙ append_assoc mark (head_bytes head ++ body) (sums_bytes (sums_behind (sums_of first) body) ++ rest)
-        ∙ ap (λ (x : List ℕ). mark ++ x) (append_assoc (head_bytes head) body (sums_bytes (sums_behind (sums_of first) body) ++ rest)) in
+    append_assoc (front_bytes part) (sums_bytes (sums_of (front_bytes part))) rest
+    ∙ ap (λ (s : ℕ × ℕ). front_bytes part ++ (sums_bytes s ++ rest)) (sym sums-is)
+    ∙ append_assoc mark (head_bytes head ++ body) (sums_bytes (sums_behind (sums_of first) body) ++ rest)
+    ∙ ap (λ (x : List ℕ). mark ++ x) (append_assoc (head_bytes head) body (sums_bytes (sums_behind (sums_of first) body) ++ rest)) in
     let firsts : length first ≡ 29 = omega (arith, length-append mark (head_bytes head), head_length head) in
     let enough : ltb (length bytes) 29 ≡ false = le-ltb _ _ (omega (arith, length-append mark (head_bytes head ++ behind), length-append (head_bytes head) behind, head_length head)) in
     let front : take 29 bytes ≡ first = ap (take 29) (sym (append_assoc mark (head_bytes head) behind)) ∙ take_at first behind 29 firsts in

@@ -1,9 +1,8 @@
 -- Small cases of bytes that are no part.
-use Rattle.std.specs.Prelude.{◌≡◌, ℕ, List, [], ◌∷◌, ◌++◌, codes, length, take, drop, Err}
+use Rattle.std.specs.Prelude.{◌≡◌, ℕ, List, [], ◌∷◌, ◌++◌, codes, take, drop, Err}
 use Rattle.base_words.specs.declared.note.Note.{Note}
 use Rattle.base_words.specs.declared.note.Note.TheVariants.{CoreClosed}
 use Rattle.base_words.specs.declared.order.Mode.TheVariants.{Finish, Return}
-use Rattle.text_journal.specs.declared.part.Head.{Head}
 use Rattle.text_journal.specs.declared.part.PartCause.TheVariants as cause
 use Rattle.text_journal.specs.Parts.{PartView, mark, head_bytes, body_bytes, sums_bytes, sums_of, part_at, part_bytes}
 

@@ -133,12 +133,7 @@ fn byte_wide(kind: u8, byte: u8, number: u64) -> [u8; 10]
     ]
 }
 
-fn put_name_byte(
-    kind: u8,
-    name: JobId,
-    byte: u8,
-    out: &mut Vec<u8>,
-) -> Result<(), AllocError>
+fn put_name_byte(kind: u8, name: JobId, byte: u8, out: &mut Vec<u8>) -> Result<(), AllocError>
     ensures { OnOk result (out.new.items ≡ out.old.items ++ kind ∷ (spec.name_bytes name ++ byte ∷ [])) }
 {
     out.extend_from_slice(&with_byte(kind, name, byte))
@@ -155,12 +150,7 @@ fn put_name_reason(
     put_name_byte(kind, name, reason_byte(reason), out)
 }
 
-fn put_name_time(
-    kind: u8,
-    name: JobId,
-    time: u64,
-    out: &mut Vec<u8>,
-) -> Result<(), AllocError>
+fn put_name_time(kind: u8, name: JobId, time: u64, out: &mut Vec<u8>) -> Result<(), AllocError>
     ensures { OnOk result (out.new.items ≡ out.old.items ++ kind ∷ (spec.name_bytes name ++ spec.wide time)) }
 {
     out.extend_from_slice(&with_time(kind, name, time))
@@ -188,12 +178,7 @@ fn put_pick(queue: QueueNo, runtime: u128, out: &mut Vec<u8>) -> Result<(), Allo
     put_wide(high, out)
 }
 
-fn put_shares(
-    kind: u8,
-    queue: QueueNo,
-    shares: Shares,
-    out: &mut Vec<u8>,
-) -> Result<(), AllocError>
+fn put_shares(kind: u8, queue: QueueNo, shares: Shares, out: &mut Vec<u8>) -> Result<(), AllocError>
     ensures { OnOk result (out.new.items ≡ out.old.items ++ kind ∷ queue ∷ spec.short shares) }
 {
     out.extend_from_slice(&[kind, queue.0])?;

@@ -197,11 +197,7 @@ fn head_at(bytes: &[u8]) -> Option<(Head, &[u8])>
 }
 
 /// So many notes, and the bytes behind them.
-fn notes_at(
-    alloc: Global,
-    count: u64,
-    bytes: &[u8],
-) -> Result<(Vec<Note<u64>>, &[u8]), PartError>
+fn notes_at(alloc: Global, count: u64, bytes: &[u8]) -> Result<(Vec<Note<u64>>, &[u8]), PartError>
     ensures { spec.GivesPart (λ x. (x.0.items, x.1.now)) result (spec.or_notes (spec.notes_at count bytes.now)) }
 {
     let mut notes = Vec::new(alloc);

@@ -1,4 +1,4 @@
-use Rattle.std.proofs.Common.{ap, arith}
+use Rattle.std.proofs.Common.{ap}
 use Rattle.text_journal.specs.Parts.{notes_at, or_notes}
 use Rattle.text_journal.proofs.ByteLaws.{ends, goes_on, is_done}
 use Rattle.text_journal.proofs.part.notes_at.Goals as goal
