@@ -27,3 +27,7 @@ pub mod HeadLines
 pub mod ReadBack
 pub mod FirstLines
 pub mod FaultyForms
+pub mod ByteFields
+pub mod ByteNotes
+pub mod ByteParts
+pub mod ByteLaws

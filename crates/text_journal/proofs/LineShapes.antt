@@ -1,6 +1,5 @@
 -- The line of a note is short, and no line feed stands in it.
 use Rattle.std.proofs.Common.{◌≡◌, ℕ, ◌+◌, ◌^◌, ◌<◌, ◌≤◌, ◌==◌, false, List, [], ◌∷◌, ◌++◌, length, refl, ap, sym, subst, arith, decimal, length-append}
-use Rattle.std.specs.Prelude.{All}
 use Rattle.std.proofs.lemmas.Fmt.{length-decimal-le_wide}
 use Rattle.std.proofs.lemmas.List.Elements.{All-cons, All-append}
 use Rattle.base_words.specs.Charge.{InRange}

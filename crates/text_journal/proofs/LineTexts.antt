@@ -1,7 +1,6 @@
 -- A line and the note that it tells are one.
 use Rattle.std.proofs.Common.{◌≡◌, ℕ, ◌==◌, List, [], ◌∷◌, refl, sym, ap, ◌∙◌, arith, decimal}
 use Rattle.std.proofs.lemmas.List.Splits.{slice_split_none, slice_split_at, join_with_byte-slice_split}
-use Rattle.base_words.specs.declared.note.Note.{Note}
 use Rattle.text_words.specs.Words.{words}
 use Rattle.text_journal.specs.Laws.{LineTellsNote, NoteHasOneLine}
 use Rattle.text_journal.proofs.NoteReads.{note_read}

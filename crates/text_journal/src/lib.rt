@@ -5,6 +5,8 @@
 //! Reads the text of journals, and judges it line by line.
 #![tactic(auto)]
 
+mod byte_fields;
+pub mod byte_notes;
 mod draft;
 pub mod fault;
 pub mod field;
@@ -12,6 +14,8 @@ mod keeper;
 pub mod kind;
 pub mod laws;
 pub mod note;
+pub mod note_bytes;
+pub mod part;
 pub mod phrase;
 pub mod read_laws;
 mod reader;
