@@ -68,7 +68,7 @@ unsafe impl Send for Seat {}
 
 /// A number of this thread, which no other has.
 #[inline]
-fn this_thread() -> u64 {
+pub(super) fn this_thread() -> u64 {
     static THREADS: AtomicU64 = AtomicU64::new(0);
     thread_local! {
         static NUMBER: Cell<u64> = const { Cell::new(0) };
