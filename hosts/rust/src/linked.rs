@@ -21,9 +21,11 @@
 //! - A job may submit to any core by its [`Cx`]. A submission has a [`Ticket`], by which its [`Outcome`] is asked for.
 //! - What becomes of notes, [`Journal`] says. Without it a house lives for as many notes as its journals have room for.
 //! - A core that has nothing to do sleeps, or waits by the host's own means: [`Core::wait_by`], [`Core::set_bell`].
+//! - Any thread reads the counts of a core by [`Stats`].
 //! - [`Task`] is a job that is a future: [`spawn`] starts one on any core, and [`spawn_local`] one that isn't `Send` on its own.
 
 mod actor;
+mod board;
 mod core;
 mod cx;
 mod fresh;
@@ -34,10 +36,12 @@ mod lanes;
 mod names;
 mod notes;
 mod outside;
+mod runs;
 mod seat;
 mod tasks;
 
 pub use actor::Ticket;
+pub use board::Stats;
 pub use core::Core;
 pub use cx::Cx;
 pub use futures::{Cancelled, Join};

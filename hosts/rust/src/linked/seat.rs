@@ -346,19 +346,19 @@ impl Seat {
         unsafe { raw::fx_seat_shows(&mut self.handle) == raw::FX_OK }
     }
 
-    pub(super) fn stats(&mut self) -> CoreStats {
+    pub(super) fn stats(&mut self) -> raw::fx_core_stats {
         let mut stats = CoreStats::asked();
         // SAFETY: as above.
         let code = unsafe { raw::fx_seat_stats(&mut self.handle, &mut stats) };
         assert_eq!(code, raw::FX_OK);
-        CoreStats::of(&stats)
+        stats
     }
 
-    pub(super) fn stats_of(&mut self, queue: u32) -> Result<QueueStats, Error> {
+    pub(super) fn stats_of(&mut self, queue: u32) -> Result<raw::fx_queue_stats, Error> {
         let mut stats = QueueStats::asked();
         // SAFETY: as above.
         refused(unsafe { raw::fx_seat_stats_of_queue(&mut self.handle, queue, &mut stats) })?;
-        Ok(QueueStats::of(&stats))
+        Ok(stats)
     }
 }
 
