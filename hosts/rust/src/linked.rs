@@ -21,7 +21,7 @@
 //! - A job may submit to any core by its [`Cx`]. A submission has a [`Ticket`], by which its [`Outcome`] is asked for.
 //! - What becomes of notes, [`Journal`] says. Without it a house lives for as many notes as its journals have room for.
 //! - A core that has nothing to do sleeps, or waits by the host's own means: [`Core::wait_by`], [`Core::set_bell`].
-//! - Any thread reads the counts of a core by [`Stats`].
+//! - Any thread reads the counts of a core by [`Stats`]. A core that is dropped before its end hands back its jobs.
 //! - [`Task`] is a job that is a future: [`spawn`] starts one on any core, and [`spawn_local`] one that isn't `Send` on its own.
 
 mod actor;

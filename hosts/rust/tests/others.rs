@@ -1,7 +1,8 @@
-//! What others learn of a core: its counts.
+//! What others learn of a core: its counts, and that it left.
 
-use fairexec::linked::{Config, Core, House, Opened, Outcome, Stats, Step};
+use fairexec::linked::{spawn, spawn_local, Cancelled, Config, Core, House, Opened, Outcome, Reason, Stats, Step, Task};
 use fairexec::{Error, Mode};
+use std::future::pending;
 use std::sync::atomic::{AtomicBool, Ordering};
 use std::sync::Arc;
 use std::thread;
@@ -84,5 +85,87 @@ fn a_core_that_does_not_sleep_tells_its_counts() -> Result<(), Error> {
     assert_eq!((told(core, 10), told(core, 10)), (0, 17));
     core.show_stats();
     assert_eq!(stats.read().0.turns, 20);
+    Ok(())
+}
+
+/// Runs a core until a task is done and three wait, and leaves: it is dropped, or a panic ends its thread.
+fn leave(mut core: Core<Task>, panics: bool) {
+    while core.stats().held < 3 || core.stats_of(0).expect("it is there").done == 0 {
+        core.step_tasks().expect("it runs");
+    }
+    assert!(!panics, "as it should");
+}
+
+// A task waits for one on a core that leaves, and the outside actor waits for another one there. A local task of that core goes with it.
+#[test]
+fn who_waits_for_a_core_is_told_that_it_left() -> Result<(), Error> {
+    for panics in [false, true] {
+        let (_house, mut cores, mut outside): Opened<Task> = House::open(&config(2))?;
+        let (second, mut first) = (cores.pop().expect("two cores"), cores.pop().expect("two cores"));
+        let (waits, told) = outside.spawn(0, 0, async { spawn(1, 0, pending::<()>()).await })?;
+        let alive = Arc::new(());
+        let held = Arc::clone(&alive);
+        let (starts, _) = outside.spawn(1, 0, async move {
+            drop(spawn_local(0, async move {
+                let _held = held;
+                pending::<()>().await
+            }));
+        })?;
+        let (asked, join) = outside.spawn(1, 0, pending::<()>())?;
+        let first = thread::spawn(move || first.run_tasks().map(|()| first));
+        let second = thread::spawn(move || leave(second, panics));
+        assert!(matches!(outside.wait_for(&starts)?, Outcome::Done(0)));
+        assert!(matches!(outside.wait_for(&waits)?, Outcome::Done(0)));
+        assert_eq!(told.take(), Some(Ok(Err(Cancelled))));
+        assert!(matches!(outside.wait_for(&asked)?, Outcome::Back(Reason::CoreReturned, _)));
+        assert_eq!(join.take(), Some(Err(Cancelled)));
+        assert_eq!(second.join().is_err(), panics);
+        assert_eq!(Arc::strong_count(&alive), 1);
+        // What comes later is refused, and a task is told so, too.
+        assert!(matches!(outside.spawn(1, 0, async {}), Err(Error::Closed)));
+        let (waits, told) = outside.spawn(0, 0, async { spawn(1, 0, async {}).await })?;
+        assert!(matches!(outside.wait_for(&waits)?, Outcome::Done(0)));
+        assert_eq!(told.take(), Some(Ok(Err(Cancelled))));
+        outside.close_all(Mode::Finish)?;
+        first.join().expect("a core ends")?;
+    }
+    Ok(())
+}
+
+// One is parked, one inside and one on its way.
+#[test]
+fn a_core_that_leaves_drops_what_it_submitted_to_itself() -> Result<(), Error> {
+    let (_house, mut cores, _outside): Opened<Arc<()>> = House::open(&config(1))?;
+    let (alive, mut core, mut tickets) = (Arc::new(()), cores.remove(0), Vec::new());
+    for step in [Step::Park, Step::Yield, Step::Done(0)] {
+        tickets.push(core.submit(0, 0, Arc::clone(&alive)).map_err(|(error, _)| error)?);
+        if !matches!(step, Step::Done(_)) {
+            core.deliver()?;
+            core.run_turn(|_, _| step)?;
+        }
+    }
+    assert_eq!(Arc::strong_count(&alive), 4);
+    drop(core);
+    assert_eq!(Arc::strong_count(&alive), 1);
+    Ok(())
+}
+
+// One is on its way, one inside, one parked, and the journal is full.
+#[test]
+fn a_core_that_leaves_hands_back_its_jobs() -> Result<(), Error> {
+    let (_house, mut cores, mut outside): Opened<u64> = House::open(&Config { notes: 12, ..config(1) })?;
+    outside.keep_notes_by(|_| {});
+    let mut core = cores.remove(0);
+    let mut tickets = Vec::new();
+    for job in 0..4 {
+        tickets.push(outside.submit(0, 0, job).map_err(|(error, _)| error)?);
+        while job < 2 && core.round(|job, _| if *job == 0 { Step::Park } else { Step::Yield }) == Ok(true) {}
+    }
+    assert_eq!(core.deliver(), Err(Error::JournalFull));
+    drop(core);
+    for (job, ticket) in (0..).zip(&tickets) {
+        let told = outside.wait_for(ticket)?;
+        assert!(matches!(told, Outcome::Back(Reason::CoreReturned | Reason::CoreClosing, it) if it == job), "{told:?}");
+    }
     Ok(())
 }

@@ -5,7 +5,7 @@ use super::board::{Shows, Stats};
 use super::cx::Cx;
 use super::lanes::{Bell, Ringer, LONGEST_SLEEP};
 use super::names::{Name, Outcome, Step, Turn};
-use super::runs::{turn, turns, MOST};
+use super::runs::{hand_back, turn, turns, MOST};
 use crate::clock::Clock;
 use crate::core::Mode;
 use crate::error::Error;
@@ -26,6 +26,7 @@ struct Leaving {
 impl Drop for Leaving {
     fn drop(&mut self) {
         self.bells[self.core as usize].leave();
+        self.bells.iter().for_each(Bell::ring);
     }
 }
 
@@ -77,6 +78,17 @@ pub struct Core<J> {
     shows: Option<Shows>,
     // It stands behind the actor, whose seat is freed before.
     _leaving: Leaving,
+}
+
+/// A core that is dropped before its house has ended closes and hands back its jobs, so who waits for one is told that it came back. What it submitted to
+/// itself is dropped with it.
+impl<J> Drop for Core<J> {
+    fn drop(&mut self) {
+        if !self.actor.seat.has_ended() {
+            self.show_stats();
+            hand_back(&mut self.actor.enter());
+        }
+    }
 }
 
 impl<J> Core<J> {

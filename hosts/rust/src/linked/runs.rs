@@ -2,11 +2,13 @@
 
 use super::actor::Actor;
 use super::cx::Cx;
+use super::lanes::Lanes;
 use super::names::{Name, Step, Turn};
 use super::seat::{Next, Settled};
 use crate::clock::{now, Clock};
+use crate::core::Mode;
 use crate::error::Error;
-use std::panic::catch_unwind;
+use std::panic::{catch_unwind, AssertUnwindSafe};
 
 /// A round delivers so many orders of an actor at most, and runs so many jobs.
 pub(super) const MOST: u32 = 64;
@@ -114,4 +116,38 @@ where
         }
     }
     Ok(true)
+}
+
+/// Closes a core that is about to be dropped, and hands back what is inside or on its way. Its notes go nowhere. What it submitted to itself it drops.
+#[cold]
+pub(super) fn hand_back<J>(actor: &mut Actor<J>) {
+    actor.seat.forget_all();
+    if !actor.seat.is_drained() {
+        hand_back_jobs(actor);
+    }
+    let own = actor.number;
+    for place in 0..Lanes::<J>::room(actor.lanes.places()) {
+        // SAFETY: the core is sender and receiver of these places, runs no job any more, and asks for no outcome.
+        let job = unsafe { actor.lanes.take(own, own, place) };
+        // A drop that panics is no reason to end the process, if another panic goes on.
+        let _ = catch_unwind(AssertUnwindSafe(|| drop(job)));
+    }
+}
+
+/// Hands back the jobs of a core, as far as its journal has room.
+fn hand_back_jobs<J>(actor: &mut Actor<J>) {
+    let cores = actor.lanes.cores();
+    // It may be closed already.
+    let _ = actor.seat.close(Mode::Return);
+    if actor.shut(0..=cores).is_err() {
+        return;
+    }
+    for sender in 0..=cores {
+        while matches!(actor.deliver(sender, MOST), Ok(1..)) {}
+    }
+    while let Ok(Next::Back(name)) = actor.seat.next() {
+        actor.fresh.start(name);
+        actor.lanes.ring(name.from);
+    }
+    actor.ring_for_answers(true);
 }

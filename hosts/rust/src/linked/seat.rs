@@ -192,6 +192,11 @@ impl Seat {
         }
     }
 
+    /// From now on notes go nowhere, and nobody takes them.
+    pub(super) fn forget_all(&mut self) {
+        (self.journal, self.keeper) = (Journal::Forget, None);
+    }
+
     pub(super) fn counts(&mut self) -> Result<NoteCounts, Error> {
         counts(&mut self.handle)
     }
