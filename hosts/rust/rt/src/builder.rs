@@ -12,7 +12,7 @@ use crate::shared::{lock, Handle, Port, Queue, QueueSetup, Shared};
 use crate::signal::Stops;
 use crate::stop::{Ending, Failure};
 use crate::Error;
-use fairexec::linked::{self, Answer, Config, Core, House, Outcome, Outside, Ticket};
+use fairexec::linked::{Answer, Config, Core, House, Outcome, Outside, Ticket};
 use fairexec::Mode;
 use std::future::Future;
 use std::panic::resume_unwind;
@@ -149,7 +149,7 @@ impl Builder {
     }
 
     /// Notes that the journal of each core has room for: those of a whole run if they are kept, else those between two times that they are passed
-    /// on. At first these are 2^20, and 4 times the places. A note has 48 bytes.
+    /// on or forgotten. At first these are 2^20, and 4 times the places, or with `Journal::Last` 32 times as many as stay. A note has 48 bytes.
     pub fn notes(mut self, notes: u32) -> Builder {
         self.notes = Some(notes);
         self
@@ -245,10 +245,9 @@ impl Builder {
         }
         let journal = self.setup.journal.clone();
         self.check()?;
-        let notes = self.notes.unwrap_or(if journal == Journal::Keep { 1 << 20 } else { 4 * self.places.max(64) });
-        let becomes = if journal == Journal::Off { linked::Journal::Forget } else { linked::Journal::Keep };
-        let (house, mut cores, mut outside) =
-            House::open(&Config { cores: self.cores, places: self.places, burst: self.burst, notes, journal: becomes })?;
+        let notes = self.notes.unwrap_or_else(|| journal.notes(self.places));
+        let config = Config { cores: self.cores, places: self.places, burst: self.burst, notes, journal: journal.linked() };
+        let (house, mut cores, mut outside) = House::open(&config)?;
         self.setup.takers = (0..=self.cores).map(|it| Taker::new(&journal, it)).collect::<Result<_, _>>()?;
         outside.keep(&self.setup.takers[self.cores as usize]);
         let ports = cores.iter().map(|it| Port::new(it.ringer(), CoreStats { core: it.number(), ..CoreStats::default() })).collect();
@@ -287,11 +286,20 @@ impl Builder {
         }
     }
 
-    fn end(&self, house: House<Job>, cores: Vec<Core<Job>>, mut outside: Outside<Job>, shared: &Shared, journal: &Journal) -> Result<Report, Error> {
+    fn end(
+        &self,
+        house: House<Job>,
+        mut cores: Vec<Core<Job>>,
+        mut outside: Outside<Job>,
+        shared: &Shared,
+        journal: &Journal,
+    ) -> Result<Report, Error> {
         outside.hand_on(&self.setup.takers[self.cores as usize], &mut Vec::new())?;
+        let newest = cores.iter_mut().map(|it| it.newest_of(journal)).chain([outside.newest_of(journal)]);
+        let newest = newest.filter_map(Result::transpose).collect::<Result<_, _>>()?;
         let journals = house.end(cores, outside).map_err(|(error, ..)| error)?;
         let (audit, text) = judge(journal, journals)?;
-        let newest = self.setup.takers.iter().flatten().map(Taker::end).collect::<Result<Vec<_>, _>>()?.into_iter().flatten().collect();
+        self.setup.takers.iter().flatten().try_for_each(Taker::end)?;
         let cores = shared.ports.iter().map(|it| lock(&it.stats).clone()).collect();
         Ok(Report { cores, audit, journal: text, newest, parts: parts(journal, self.cores) })
     }
