@@ -6,9 +6,9 @@ use crate::journal::{judge, parts, Journal, Notes, Taker};
 use crate::local::{on_core, Job, Local};
 use crate::pin::Pin;
 use crate::reactor::Reactor;
-use crate::report::{CoreStats, Report};
+use crate::report::Report;
 use crate::root::{self, Termination};
-use crate::shared::{lock, Handle, Port, Queue, QueueSetup, Shared};
+use crate::shared::{Handle, Port, Queue, QueueSetup, Shared};
 use crate::signal::Stops;
 use crate::stop::{Ending, Failure};
 use crate::Error;
@@ -250,7 +250,7 @@ impl Builder {
         let (house, mut cores, mut outside) = House::open(&config)?;
         self.setup.takers = (0..=self.cores).map(|it| Taker::new(&journal, it)).collect::<Result<_, _>>()?;
         outside.keep(&self.setup.takers[self.cores as usize]);
-        let ports = cores.iter().map(|it| Port::new(it.ringer(), CoreStats { core: it.number(), ..CoreStats::default() })).collect();
+        let ports = cores.iter_mut().map(|it| Port::new(it.ringer(), it.shared_stats())).collect();
         let (queues, ending) = (std::mem::take(&mut self.queues), Ending::new(self.cores));
         let shared = Arc::new(Shared { ports, queues, places: self.places, ending, barrier: Barrier::default() });
         // Before a core runs, since it may call the others at once.
@@ -300,8 +300,7 @@ impl Builder {
         let journals = house.end(cores, outside).map_err(|(error, ..)| error)?;
         let (audit, text) = judge(journal, journals)?;
         self.setup.takers.iter().flatten().try_for_each(Taker::end)?;
-        let cores = shared.ports.iter().map(|it| lock(&it.stats).clone()).collect();
-        Ok(Report { cores, audit, journal: text, newest, parts: parts(journal, self.cores) })
+        Ok(Report { cores: shared.stats(), audit, journal: text, newest, parts: parts(journal, self.cores) })
     }
 
     /// What the library would refuse later, and with fewer words.

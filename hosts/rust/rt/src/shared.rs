@@ -2,11 +2,11 @@
 
 use crate::barrier::Barrier;
 use crate::call::{Call, Slot, Start};
-use crate::report::CoreStats;
+use crate::report::{CoreStats, QueueStats};
 use crate::stop::Ending;
 use crate::task::Turn;
-use fairexec::linked::Ringer;
-use std::sync::atomic::{AtomicBool, Ordering};
+use fairexec::linked::{Ringer, Stats};
+use std::sync::atomic::{AtomicBool, AtomicU64, Ordering};
 use std::sync::{Arc, Mutex, MutexGuard, PoisonError};
 use std::time::Duration;
 
@@ -75,12 +75,15 @@ pub(crate) struct Port {
     ringer: Ringer,
     has_mail: AtomicBool,
     mail: Mutex<Vec<Mail>>,
-    pub(crate) stats: Mutex<CoreStats>,
+    stats: Stats,
+    /// What the library doesn't count: tasks that haven't ended, and bytes of the journal that were passed on.
+    pub(crate) tasks: AtomicU64,
+    pub(crate) journal_bytes: AtomicU64,
 }
 
 impl Port {
-    pub(crate) fn new(ringer: Ringer, stats: CoreStats) -> Port {
-        Port { ringer, has_mail: AtomicBool::new(false), mail: Mutex::default(), stats: Mutex::new(stats) }
+    pub(crate) fn new(ringer: Ringer, stats: Stats) -> Port {
+        Port { ringer, has_mail: AtomicBool::new(false), mail: Mutex::default(), stats, tasks: AtomicU64::new(0), journal_bytes: AtomicU64::new(0) }
     }
 
     /// Leaves mail, and then rings: the order that `wait_by` of the wrapper asks for.
@@ -127,6 +130,24 @@ impl Shared {
     pub(crate) fn ring_all(&self) {
         self.ports.iter().for_each(Port::ring);
     }
+
+    /// The counts of all cores.
+    pub(crate) fn stats(&self) -> Vec<CoreStats> {
+        (0..).zip(&self.ports).map(|(core, port)| self.stats_of(core, port)).collect()
+    }
+
+    fn stats_of(&self, core: u32, port: &Port) -> CoreStats {
+        let (stats, queues) = port.stats.read();
+        let queues = self.queues.iter().zip(queues).map(|(setup, it)| QueueStats {
+            name: setup.name.clone(),
+            shares: it.shares,
+            picks: it.picks,
+            time: Duration::from_nanos(it.time as u64),
+            virtual_runtime: it.virtual_runtime,
+        });
+        let [tasks, journal_bytes] = [&port.tasks, &port.journal_bytes].map(|it| it.load(Ordering::Relaxed));
+        CoreStats { core, turns: stats.turns, tasks, queues: queues.collect(), journal_bytes }
+    }
 }
 
 /// The executor, for any thread. It is cheap to clone, and may outlive the executor.
@@ -157,7 +178,7 @@ impl Handle {
 
     /// The counts of all cores, at most some 20 ms old.
     pub fn stats(&self) -> Vec<CoreStats> {
-        self.0.ports.iter().map(|it| lock(&it.stats).clone()).collect()
+        self.0.stats()
     }
 
     /// As [`stop`](crate::stop()).
