@@ -1,18 +1,16 @@
 //! How an executor is made, runs and ends.
 
 use crate::barrier::Barrier;
-use crate::drive::Driver;
 use crate::journal::{judge, parts, Journal, Notes, Taker};
-use crate::local::{on_core, Job, Local};
+use crate::local::Job;
 use crate::pin::Pin;
-use crate::reactor::Reactor;
 use crate::report::Report;
-use crate::root::{self, Termination};
+use crate::root::{make_queues, serve, Termination};
 use crate::shared::{Handle, Port, Queue, QueueSetup, Shared};
 use crate::signal::Stops;
 use crate::stop::{Ending, Failure};
 use crate::Error;
-use fairexec::linked::{Answer, Config, Core, House, Outcome, Outside, Ticket};
+use fairexec::linked::{Config, Core, House, Outside};
 use fairexec::Mode;
 use std::future::Future;
 use std::panic::resume_unwind;
@@ -67,9 +65,9 @@ pub(crate) struct Setup {
     pub(crate) slow_poll: Option<(Duration, Tells)>,
     /// By the actor.
     pub(crate) takers: Vec<Option<Taker>>,
-    round: Duration,
+    pub(crate) round: Duration,
+    pub(crate) pin: Pin,
     journal: Journal,
-    pin: Pin,
 }
 
 /// Says what an executor is made of.
@@ -343,6 +341,10 @@ pub struct Here {
 }
 
 impl Here {
+    pub(crate) fn new(core: u32, shared: Arc<Shared>) -> Here {
+        Here { core, shared }
+    }
+
     /// The number of this core.
     pub fn core(&self) -> u32 {
         self.core
@@ -381,58 +383,4 @@ impl Here {
     pub fn handle(&self) -> Handle {
         Handle(Arc::clone(&self.shared))
     }
-}
-
-/// An order of a core to itself, with its answer.
-fn order(core: &mut Core<Job>, make: impl FnOnce(&mut Core<Job>) -> Result<Ticket, fairexec::Error>) -> Result<(), Error> {
-    let ticket = make(core)?;
-    core.deliver()?;
-    core.collect()?;
-    match core.redeem(&ticket)? {
-        Outcome::Answered(Answer::SharesSet | Answer::Created(_)) => Ok(()),
-        Outcome::Answered(answer) => Err(Error::Setup(format!("a queue isn't made: {answer:?}"))),
-        Outcome::Done(_) | Outcome::Back(..) => unreachable!("an order is answered"),
-    }
-}
-
-fn make_queues(core: &mut Core<Job>, queues: &[QueueSetup]) -> Result<(), Error> {
-    let number = core.number();
-    order(core, |it| it.set_shares(number, 0, queues[0].shares))?;
-    queues[1..].iter().try_for_each(|queue| order(core, |it| it.create(number, queue.shares)))
-}
-
-/// The thread of a core. One that fails ends the others.
-fn serve<F, Fut>(mut core: Core<Job>, shared: Arc<Shared>, setup: &Setup, stops: Option<Stops>, begin: &F) -> Result<Core<Job>, Error>
-where
-    F: Fn(Here) -> Fut,
-    Fut: Future + 'static,
-    Fut::Output: Termination,
-{
-    struct Failing(Option<Arc<Shared>>);
-    impl Drop for Failing {
-        fn drop(&mut self) {
-            if let Some(shared) = self.0.take() {
-                shared.ending.fail();
-            }
-        }
-    }
-    let mut failing = Failing(Some(Arc::clone(&shared)));
-    let number = core.number();
-    setup.pin.apply(number)?;
-    let (reactor, bell) = Reactor::new()?;
-    // A ring that fails has no end of the wait, and nobody else to tell. An eventfd fails if the process has closed it.
-    core.set_bell(move || bell.wake().expect("an eventfd takes a ring"));
-    core.set_round_time(setup.round.as_nanos() as u64);
-    on_core(Local::new(number, Arc::clone(&shared), reactor), |local| {
-        let mut driver = Driver::new(local, &mut core, setup);
-        let here = Here { core: number, shared: Arc::clone(&shared) };
-        root::start(&shared, begin(here));
-        if let Some(stops) = stops {
-            stops.watch()?;
-        }
-        driver.run()
-    })?;
-    core.hand_on(&setup.takers[number as usize], &mut Vec::new())?;
-    failing.0 = None;
-    Ok(core)
 }

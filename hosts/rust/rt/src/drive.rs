@@ -6,6 +6,7 @@ use crate::local::{Job, Local, Sending};
 use crate::Error;
 use fairexec::linked::{Answer, Core, Cx, Outcome, Step, Ticket};
 use fairexec::wall_clock;
+use fairexec::Mode;
 use std::collections::VecDeque;
 use std::sync::atomic::Ordering;
 use std::time::Duration;
@@ -144,8 +145,24 @@ impl<'a> Driver<'a> {
         Driver { local, core, setup, own, text: Vec::new() }
     }
 
-    /// Runs tasks until the executor closes.
+    /// Runs tasks until the executor closes, or until the core fails: then it tells the others, and hands back whatever is inside.
     pub(crate) fn run(&mut self) -> Result<(), Error> {
+        let told = self.run_until_end();
+        if let Err(error) = &told {
+            self.local.shared.ending.fail();
+            if let Error::Library(fairexec::Error::JournalFull) = error {
+                // Nobody judges this journal any more, and what is left to do takes notes.
+                self.core.forget()?;
+                self.core.keep_notes_by(|_| {});
+            }
+            // It may be closed already.
+            let _ = self.core.close(Mode::Return);
+        }
+        let closed = self.close();
+        told.and(closed)
+    }
+
+    fn run_until_end(&mut self) -> Result<(), Error> {
         let (mut polled, mut shown, mut has_told) = (0, 0, false);
         let reactor_every = self.setup.reactor_every.as_nanos() as u64;
         while !self.local.shared.ending.is_closing() {
@@ -171,7 +188,7 @@ impl<'a> Driver<'a> {
             polled = wall_clock();
             self.local.reactor.wake();
         }
-        self.close()
+        Ok(())
     }
 
     /// One round. Whether anything happened.

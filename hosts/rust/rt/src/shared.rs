@@ -74,7 +74,8 @@ pub(crate) enum Mail {
 pub(crate) struct Port {
     ringer: Ringer,
     has_mail: AtomicBool,
-    mail: Mutex<Vec<Mail>>,
+    // None once the core has ended.
+    mail: Mutex<Option<Vec<Mail>>>,
     stats: Stats,
     /// What the library doesn't count: tasks that haven't ended, and bytes of the journal that were passed on.
     pub(crate) tasks: AtomicU64,
@@ -83,16 +84,26 @@ pub(crate) struct Port {
 
 impl Port {
     pub(crate) fn new(ringer: Ringer, stats: Stats) -> Port {
-        Port { ringer, has_mail: AtomicBool::new(false), mail: Mutex::default(), stats, tasks: AtomicU64::new(0), journal_bytes: AtomicU64::new(0) }
+        let mail = Mutex::new(Some(Vec::new()));
+        Port { ringer, has_mail: AtomicBool::new(false), mail, stats, tasks: AtomicU64::new(0), journal_bytes: AtomicU64::new(0) }
     }
 
-    /// Leaves mail, and then rings: the order that `wait_by` of the wrapper asks for.
+    /// Leaves mail, and then rings: the order that `wait_by` of the wrapper asks for. A core that has ended takes none: the mail is dropped, which tells
+    /// who waits for it.
     pub(crate) fn leave(&self, mail: Mail) {
-        let mut all = lock(&self.mail);
-        all.push(mail);
-        self.has_mail.store(true, Ordering::SeqCst);
-        drop(all);
+        {
+            let mut all = lock(&self.mail);
+            let Some(all) = &mut *all else { return };
+            all.push(mail);
+            self.has_mail.store(true, Ordering::SeqCst);
+        }
         self.ring();
+    }
+
+    /// The core ends. Its mail is dropped, on its thread.
+    pub(crate) fn close(&self) {
+        let mail = lock(&self.mail).take();
+        drop(mail);
     }
 
     pub(crate) fn ring(&self) {
@@ -108,7 +119,7 @@ impl Port {
     pub(crate) fn take(&self) -> Vec<Mail> {
         let mut all = lock(&self.mail);
         self.has_mail.store(false, Ordering::SeqCst);
-        std::mem::take(&mut *all)
+        all.as_mut().map(std::mem::take).unwrap_or_default()
     }
 }
 
