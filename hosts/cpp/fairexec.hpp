@@ -11,8 +11,10 @@
 #define FAIREXEC_HPP
 
 #include "fairexec.h"
+#include <algorithm>
 #include <chrono>
 #include <cstddef>
+#include <functional>
 #include <memory>
 #include <new>
 #include <optional>
@@ -276,6 +278,116 @@ private:
     explicit task(std::coroutine_handle<promise_type> at) : at(at) {}
 };
 #endif
+
+namespace linked {
+// The notes of an actor of a house: what becomes of them.
+class noted {
+    // Notes are counted behind so many calls, and go on once there is a piece of them. A call hands on so many at most, or as many as so much time is
+    // enough for. The library copies so many at once.
+    static constexpr uint32_t calls = 256;
+    static constexpr uint64_t piece = 1024, most_notes = 4096, copied = 256;
+    static constexpr std::chrono::milliseconds longest_pause{1};
+    // Who takes the notes, and where their text stands until he took it. Of the notes that the journal keeps so many, the oldest, went on already.
+    std::function<void(const std::string &)> keeper;
+    std::string notes;
+    uint64_t passed = 0;
+    uint32_t left = calls;
+
+    // Puts the text of some notes that didn't go on behind this text, and forgets all once none is left: FX_OK or FX_NO_MEMORY.
+    fx_code put_some(std::string &text) {
+        uint64_t some = 0, count = 0;
+        fx_code code = copy(passed, copied, text, some);
+        if (code != FX_OK) return code;
+        passed += some;
+        if (some == copied) return FX_OK;
+        passed = 0;
+        return forget(count);
+    }
+    // Hands notes to whoever takes them, behind those that an exception of his left: some, or all. Whether anybody took them.
+    bool hand_on(bool all) {
+        if (!keeper) return false;
+        auto end = std::chrono::steady_clock::now() + longest_pause;
+        uint64_t count = 0;
+        do {
+            if (put_some(notes) != FX_OK) return false;
+            count += copied;
+        } while (passed > 0 && (all || (count < most_notes && std::chrono::steady_clock::now() < end)));
+        keeper(notes);
+        notes.clear();
+        return true;
+    }
+    // Hands notes on before the journal is full. A journal of few notes waits until it is.
+    void look() {
+        left = calls;
+        uint64_t kept = 0, free_notes = 0;
+        if (!keeper || notes_kept(kept, free_notes) != FX_OK) return;
+        if (kept + free_notes >= 2 * piece && (passed > 0 || kept >= piece)) hand_on(false);
+        if (passed > 0) left = calls / 16;
+    }
+
+protected:
+    fx_seat seat = FX_NO_SEAT;
+
+    noted() = default;
+    noted(noted &&other) noexcept
+        : keeper(std::move(other.keeper)), notes(std::move(other.notes)), passed(other.passed), left(other.left), seat(std::exchange(other.seat, fx_seat FX_NO_SEAT)) {}
+    // So many calls may have made as many notes as one did.
+    void count_more(uint64_t of) { left -= static_cast<uint32_t>(std::min<uint64_t>(left - 1, of)); }
+    // Makes a call, and makes it again if the journal is full and somebody takes its notes.
+    template <class Call> uint32_t called(Call call) {
+        if (--left == 0) look();
+        uint32_t code = call();
+        return code == FX_JOURNAL_FULL && hand_on(true) ? call() : code;
+    }
+
+public:
+    // Puts the text of the notes that the journal keeps behind this text: FX_OK, or FX_NO_MEMORY. The journal keeps none of them then, and all its
+    // notes are free. All parts of an actor are its notes in the text of the journals. An exception of the string loses none of them.
+    [[nodiscard]] fx_code pass_on(std::string &text) {
+        do {
+            fx_code code = put_some(notes);
+            if (code != FX_OK) return code;
+        } while (passed > 0);
+        text += notes;
+        notes.clear();
+        return FX_OK;
+    }
+    // How many notes the journal keeps, and how many more it has room for: FX_OK, or FX_EMPTY behind the end.
+    [[nodiscard]] fx_code notes_kept(uint64_t &kept, uint64_t &free_notes) noexcept { return static_cast<fx_code>(fx_seat_notes(&seat, &kept, &free_notes)); }
+    // Puts the text of so many notes at most behind this text, from the place `from` on of those that the journal keeps, and writes how many they are:
+    // FX_OK, FX_NO_MEMORY or FX_EMPTY. All of them stay. An exception of the string leaves all as it was.
+    [[nodiscard]] fx_code copy(uint64_t from, uint64_t most, std::string &text, uint64_t &notes_copied) {
+        std::size_t had = text.size();
+        // A line has at most 128 bytes.
+        uint64_t code, count = 128 * std::min(most, copied) + 1;
+        do {
+            text.resize(had);
+            text.resize(had + static_cast<std::size_t>(count));
+            code = fx_seat_copy(&seat, from, most, reinterpret_cast<uint8_t *>(&text[had]), text.size() - had, &count, &notes_copied);
+        } while (code == FX_SHORT);
+        text.resize(code == FX_OK ? had + static_cast<std::size_t>(count) : had);
+        return static_cast<fx_code>(code);
+    }
+    // Forgets the notes that the journal keeps, and writes how many they were. All its notes are free then, and the house can't judge.
+    [[nodiscard]] fx_code forget(uint64_t &count) noexcept {
+        passed = 0;
+        return static_cast<fx_code>(fx_seat_forget(&seat, &count));
+    }
+
+    // From now on the text of the notes goes to `takes`, before the journal is full: about a thousand at a time, and no call hands on more than 4096
+    // or goes on with it for longer than 1 ms. A journal that has room for fewer than 2048, or is nearly full by now, goes out when it is full. So
+    // FX_JOURNAL_FULL comes only if the journal has room for fewer notes than one call may need. What is kept at the end goes out by `pass_on`.
+    // An exception of `takes` leaves that call, which wasn't made; a job that was handed in with it is destroyed. The text is kept: it goes first
+    // the next time that notes go to `takes`, or to pass_on.
+    void keep_notes_by(std::function<void(const std::string &)> takes) { keeper = std::move(takes); }
+
+    // Hands the journal to the house. What went on already goes on whole before.
+    [[nodiscard]] fx_code end(fx_house &house) {
+        if (passed > 0 && keeper && !hand_on(true)) return FX_NO_MEMORY;
+        return static_cast<fx_code>(fx_house_end(&house, &seat));
+    }
+};
+} // namespace linked
 
 } // namespace fairexec
 

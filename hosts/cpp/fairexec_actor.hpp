@@ -135,7 +135,7 @@ public:
 };
 
 // What each actor does. The calls answer the codes of fairexec.h.
-template <class Job> class actor {
+template <class Job> class actor : public noted {
     // A job of the own core that parks until the outcome of a submission has come, and what that was.
     struct waiting {
         ticket of;
@@ -157,9 +157,6 @@ template <class Job> class actor {
     std::list<waiting> waits;
     // Whether outcomes were collected for which nobody asked yet.
     bool are_new = false;
-    // Who takes the notes if the journal is full, and where their text stands until he took it.
-    std::function<void(const std::string &)> keeper;
-    std::string notes;
 
     // Asks for all outcomes that may have come. What a full journal refuses is asked for the next time, and so is all behind an exception of `takes`.
     void ask() {
@@ -198,38 +195,8 @@ template <class Job> class actor {
         }
     }
 
-    // Puts what this call writes behind this text. An exception of the string leaves all as it was.
-    template <class Call> static fx_code put_behind(std::string &text, Call call) {
-        std::size_t had = text.size();
-        uint64_t count = 0;
-        uint32_t code;
-        text.resize(std::max(text.capacity(), had + 1));
-        while ((code = call(reinterpret_cast<uint8_t *>(&text[had]), text.size() - had, &count)) == FX_SHORT) {
-            text.resize(had);
-            text.resize(had + static_cast<std::size_t>(count));
-        }
-        text.resize(code == FX_OK ? had + static_cast<std::size_t>(count) : had);
-        return static_cast<fx_code>(code);
-    }
-    fx_code put_behind(std::string &text) {
-        return put_behind(text, [&](uint8_t *bytes, std::size_t room, uint64_t *count) { return fx_seat_pass_on(&seat, bytes, room, count); });
-    }
-    // Hands the notes to whoever takes them, behind those that an exception of his left. Whether anybody took them.
-    bool hand_on() {
-        if (!keeper || put_behind(notes) != FX_OK) return false;
-        keeper(notes);
-        notes.clear();
-        return true;
-    }
 
 protected:
-    // Makes a call, and makes it again if the journal is full and somebody takes its notes.
-    template <class Call> uint32_t called(Call call) {
-        uint32_t code = call();
-        return code == FX_JOURNAL_FULL && hand_on() ? call() : code;
-    }
-
-    fx_seat seat = FX_NO_SEAT;
     uint32_t own = 0;
     std::shared_ptr<lanes<Job>> shared;
 
@@ -253,8 +220,7 @@ public:
         if (code != FX_OK) throw error(code);
     }
     actor(actor &&other) noexcept
-        : to_core(std::move(other.to_core)), loose(std::move(other.loose)), waits(std::move(other.waits)), are_new(other.are_new), keeper(std::move(other.keeper)), notes(std::move(other.notes)), own(other.own), shared(std::move(other.shared)) {
-        std::swap(seat, other.seat);
+        : noted(std::move(other)), to_core(std::move(other.to_core)), loose(std::move(other.loose)), waits(std::move(other.waits)), are_new(other.are_new), own(other.own), shared(std::move(other.shared)) {
     }
     actor(const actor &) = delete;
     actor &operator=(actor &&) = delete;
@@ -310,6 +276,8 @@ public:
             if (to_core[core].pending == 0) continue;
             uint32_t code = called([&] { return fx_seat_collect(&seat, core, &some); });
             if (code != FX_OK) return static_cast<fx_code>(code);
+            // Each outcome is a note, and a call makes some four.
+            this->count_more(some / 4);
             to_core[core].pending -= some;
             are_new = are_new || some > 0;
             count += some;
@@ -353,32 +321,6 @@ public:
         loose.push_back(of);
         return FX_OK;
     }
-
-    // Puts the text of the notes that the journal keeps behind this text: FX_OK, or FX_NO_MEMORY. The journal keeps none of them then, and all its
-    // notes are free. All parts of an actor are its notes in the text of the journals. An exception of the string loses none of them.
-    [[nodiscard]] fx_code pass_on(std::string &text) {
-        if (notes.empty()) return put_behind(text);
-        fx_code code = put_behind(notes);
-        if (code != FX_OK) return code;
-        text += notes;
-        notes.clear();
-        return FX_OK;
-    }
-    // How many notes the journal keeps, and how many more it has room for: FX_OK, or FX_EMPTY behind the end.
-    [[nodiscard]] fx_code notes_kept(uint64_t &kept, uint64_t &free_notes) noexcept { return static_cast<fx_code>(fx_seat_notes(&seat, &kept, &free_notes)); }
-    // Puts the text of so many notes at most behind this text, from the place `from` on of those that the journal keeps, and writes how many they are:
-    // FX_OK, FX_NO_MEMORY or FX_EMPTY. All of them stay. An exception of the string leaves all as it was.
-    [[nodiscard]] fx_code copy(uint64_t from, uint64_t most, std::string &text, uint64_t &notes_copied) {
-        return put_behind(text, [&](uint8_t *bytes, std::size_t room, uint64_t *count) { return fx_seat_copy(&seat, from, most, bytes, room, count, &notes_copied); });
-    }
-    // Forgets the notes that the journal keeps, and writes how many they were. All its notes are free then, and the house can't judge.
-    [[nodiscard]] fx_code forget(uint64_t &count) noexcept { return static_cast<fx_code>(fx_seat_forget(&seat, &count)); }
-
-    // Whenever the journal is full from now on, the text of its notes goes to `takes`, and the call that needs room is made again. So
-    // FX_JOURNAL_FULL comes only if the journal has room for fewer notes than one call may need. What is kept at the end goes out by `pass_on`.
-    // An exception of `takes` leaves that call, which wasn't made; a job that was handed in with it is destroyed. The text is kept: it goes first
-    // the next time that notes go to `takes`, or to pass_on.
-    void keep_notes_by(std::function<void(const std::string &)> takes) { keeper = std::move(takes); }
 
     // A thread that sleeps by its own means, as by epoll, lets `calls` be called where there is something to do: it says so before the threads
     // of the house start. It asks may_sleep, sleeps if that says so, and then calls is_awake.

@@ -174,7 +174,6 @@ public:
         if (code != FX_OK) throw error(code);
         return stats;
     }
-    [[nodiscard]] fx_code end(fx_house &house) noexcept { return static_cast<fx_code>(fx_house_end(&house, &this->seat)); }
 };
 
 // The outside actor: the part of the host that belongs to no core.
@@ -214,7 +213,6 @@ public:
             if (code != FX_OK) throw error(code);
         }
     }
-    [[nodiscard]] fx_code end(fx_house &house) noexcept { return static_cast<fx_code>(fx_house_end(&house, &this->seat)); }
 };
 
 // A house with all its actors. Each core is used by the thread that it was given to, and the outside actor by one thread.
@@ -265,7 +263,7 @@ public:
 
     // Ends all actors: FX_OK; or FX_NOT_DRAINED, and none has ended by this call; or FX_NO_MEMORY, and the next call goes on with who is left. No
     // thread uses the actors any more.
-    [[nodiscard]] fx_code end() noexcept {
+    [[nodiscard]] fx_code end() {
         for (std::size_t each = ended; each < cores.size(); each++)
             if (!cores[each].is_drained()) return FX_NOT_DRAINED;
         for (; ended < cores.size(); ended++) {

@@ -288,6 +288,45 @@ static void notes_are_forgotten() {
     is("the outcome comes all the same", house.outside.wait_for(*sent.ticket).answer, 8);
 }
 
+// The journal has many notes when somebody is named who takes them. No call hands on more than a pause may take.
+static void no_call_hands_on_many() {
+    linked::house<counted> house({1, 4, 1, 1u << 16});
+    auto &core = house.cores[0];
+    uint64_t kept = 0, free_notes = 0;
+    long now = 0, most = 0;
+    std::string all;
+    auto jobs = [&](unsigned long count) {
+        unsigned long right = 0;
+        for (unsigned long number = 0; number < count; number++) {
+            bool did = false;
+            auto sent = house.outside.submit(0, 0, counted(number));
+            right += core.deliver(did) == FX_OK && did;
+            now = 0;
+            right += core.run_turn(twice) == FX_DONE;
+            now = 0;
+            right += house.outside.wait_for(*sent.ticket).answer == 2 * number;
+        }
+        return right;
+    };
+    house.outside.keep_notes_by([](const std::string &) {});
+    is("many jobs are done", jobs(12000), 36000);
+    is("their notes are kept", core.notes_kept(kept, free_notes) == FX_OK && kept == 48000, 1);
+    core.keep_notes_by([&](const std::string &text) {
+        now += std::count(text.begin(), text.end(), '\n');
+        most = std::max(most, now);
+        all += text;
+    });
+    is("more jobs are done", jobs(4000), 12000);
+    is("some thousand notes at most go on at a time", most >= 256 && most <= 4096, 1);
+    is("soon nearly none is kept", core.notes_kept(kept, free_notes) == FX_OK && kept < 2048, 1);
+    is("the rest goes out", core.pass_on(all), FX_OK);
+    is("each went on once", static_cast<unsigned long>(std::count(all.begin(), all.end(), '\n')), 64000);
+    is("in their order", all.compare(0, 16, "0 took 1>0#1 q0\n") == 0 && all.find("0 done 1>0#16000 ") == all.rfind("0 done "), 1);
+    is("the core closes", core.close(mode::finish), FX_OK);
+    while (core.round(twice) == FX_OK) {}
+    is("it ends", house.end(), FX_OK);
+}
+
 // Who takes notes throws each second time. A call that this leaves is made again.
 template <class Job> struct fails_often {
     linked::house<Job> house;
@@ -438,6 +477,7 @@ int main() {
     what_comes_back();
     notes_go_on();
     notes_are_forgotten();
+    no_call_hands_on_many();
     no_note_is_lost();
     exceptions();
     two_cores();

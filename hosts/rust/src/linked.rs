@@ -21,28 +21,34 @@
 //! - A job may submit to any core by its [`Cx`]. A submission has a [`Ticket`], by which its [`Outcome`] is asked for.
 //! - What becomes of notes, [`Journal`] says. Without it a house lives for as many notes as its journals have room for.
 //! - A core that has nothing to do sleeps, or waits by the host's own means: [`Core::wait_by`], [`Core::set_bell`].
-//! - [`Task`] is a job that is a future: [`spawn`] starts one on any core.
+//! - Any thread reads the counts of a core by [`Stats`]. A core that is dropped before its end hands back its jobs.
+//! - [`Task`] is a job that is a future: [`spawn`] starts one on any core, and [`spawn_local`] one that isn't `Send` on its own.
 
 mod actor;
+mod board;
 mod core;
 mod cx;
 mod fresh;
+mod futures;
 mod house;
 mod jobs;
 mod lanes;
 mod names;
 mod notes;
 mod outside;
+mod runs;
 mod seat;
 mod tasks;
 
 pub use actor::Ticket;
+pub use board::Stats;
 pub use core::Core;
 pub use cx::Cx;
+pub use futures::{Cancelled, Join};
 pub use house::{Config, Ended, House, Journals, Opened, Verdict};
 pub use jobs::Job;
 pub use lanes::Ringer;
 pub use names::{Answer, Name, Outcome, Reason, Step, Turn};
 pub use notes::{Journal, NoteCounts};
 pub use outside::Outside;
-pub use tasks::{spawn, yield_now, Cancelled, Join, Task};
+pub use tasks::{spawn, spawn_local, yield_now, Task};

@@ -84,6 +84,33 @@ fn a_panic_drops_its_job() -> Result<(), Error> {
     Ok(())
 }
 
+/// A job whose drop panics, or doesn't.
+struct Fails(bool);
+
+impl Drop for Fails {
+    fn drop(&mut self) {
+        assert!(!std::mem::take(&mut self.0), "a job's own");
+    }
+}
+
+// The run of the one is settled by the call that tells the next.
+#[test]
+fn a_drop_that_panics_takes_no_other_run_with_it() -> Result<(), Error> {
+    let (_house, mut core, mut outside) = opened(8, 1 << 12)?;
+    core.set_clock(|| 0);
+    let tickets = [true, false, true, false].map(|it| sent(outside.submit(0, 0, Fails(it))));
+    let mut runs = 0;
+    while catch_unwind(AssertUnwindSafe(|| core.round(|_, _| {
+        runs += 1;
+        Step::Done(runs)
+    }))).map_or(true, |told| told == Ok(true)) {}
+    for (number, ticket) in (1..).zip(tickets) {
+        assert!(matches!(outside.wait_for(&ticket?)?, Outcome::Done(it) if it == number));
+    }
+    assert_eq!(runs, 4);
+    Ok(())
+}
+
 // By its queue and by its core, at a delivery and at a pick, parked or not.
 #[test]
 fn a_job_that_comes_back_is_the_senders() -> Result<(), Error> {

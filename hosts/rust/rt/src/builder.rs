@@ -1,18 +1,16 @@
 //! How an executor is made, runs and ends.
 
 use crate::barrier::Barrier;
-use crate::drive::Driver;
 use crate::journal::{judge, parts, Journal, Notes, Taker};
-use crate::local::{on_core, Job, Local};
+use crate::local::Job;
 use crate::pin::Pin;
-use crate::reactor::Reactor;
-use crate::report::{CoreStats, Report};
-use crate::root::{self, Termination};
-use crate::shared::{lock, Handle, Port, Queue, QueueSetup, Shared};
+use crate::report::Report;
+use crate::root::{make_queues, serve, Termination};
+use crate::shared::{Handle, Port, Queue, QueueSetup, Shared};
 use crate::signal::Stops;
 use crate::stop::{Ending, Failure};
 use crate::Error;
-use fairexec::linked::{self, Answer, Config, Core, House, Outcome, Outside, Ticket};
+use fairexec::linked::{Config, Core, House, Outside};
 use fairexec::Mode;
 use std::future::Future;
 use std::panic::resume_unwind;
@@ -67,9 +65,9 @@ pub(crate) struct Setup {
     pub(crate) slow_poll: Option<(Duration, Tells)>,
     /// By the actor.
     pub(crate) takers: Vec<Option<Taker>>,
-    round: Duration,
+    pub(crate) round: Duration,
+    pub(crate) pin: Pin,
     journal: Journal,
-    pin: Pin,
 }
 
 /// Says what an executor is made of.
@@ -149,7 +147,7 @@ impl Builder {
     }
 
     /// Notes that the journal of each core has room for: those of a whole run if they are kept, else those between two times that they are passed
-    /// on. At first these are 2^20, and 4 times the places. A note has 48 bytes.
+    /// on or forgotten. At first these are 2^20, and 4 times the places, or with `Journal::Last` 32 times as many as stay. A note has 48 bytes.
     pub fn notes(mut self, notes: u32) -> Builder {
         self.notes = Some(notes);
         self
@@ -245,13 +243,12 @@ impl Builder {
         }
         let journal = self.setup.journal.clone();
         self.check()?;
-        let notes = self.notes.unwrap_or(if journal == Journal::Keep { 1 << 20 } else { 4 * self.places.max(64) });
-        let becomes = if journal == Journal::Off { linked::Journal::Forget } else { linked::Journal::Keep };
-        let (house, mut cores, mut outside) =
-            House::open(&Config { cores: self.cores, places: self.places, burst: self.burst, notes, journal: becomes })?;
+        let notes = self.notes.unwrap_or_else(|| journal.notes(self.places));
+        let config = Config { cores: self.cores, places: self.places, burst: self.burst, notes, journal: journal.linked() };
+        let (house, mut cores, mut outside) = House::open(&config)?;
         self.setup.takers = (0..=self.cores).map(|it| Taker::new(&journal, it)).collect::<Result<_, _>>()?;
         outside.keep(&self.setup.takers[self.cores as usize]);
-        let ports = cores.iter().map(|it| Port::new(it.ringer(), CoreStats { core: it.number(), ..CoreStats::default() })).collect();
+        let ports = cores.iter_mut().map(|it| Port::new(it.ringer(), it.shared_stats())).collect();
         let (queues, ending) = (std::mem::take(&mut self.queues), Ending::new(self.cores));
         let shared = Arc::new(Shared { ports, queues, places: self.places, ending, barrier: Barrier::default() });
         // Before a core runs, since it may call the others at once.
@@ -287,13 +284,21 @@ impl Builder {
         }
     }
 
-    fn end(&self, house: House<Job>, cores: Vec<Core<Job>>, mut outside: Outside<Job>, shared: &Shared, journal: &Journal) -> Result<Report, Error> {
+    fn end(
+        &self,
+        house: House<Job>,
+        mut cores: Vec<Core<Job>>,
+        mut outside: Outside<Job>,
+        shared: &Shared,
+        journal: &Journal,
+    ) -> Result<Report, Error> {
         outside.hand_on(&self.setup.takers[self.cores as usize], &mut Vec::new())?;
+        let newest = cores.iter_mut().map(|it| it.newest_of(journal)).chain([outside.newest_of(journal)]);
+        let newest = newest.filter_map(Result::transpose).collect::<Result<_, _>>()?;
         let journals = house.end(cores, outside).map_err(|(error, ..)| error)?;
         let (audit, text) = judge(journal, journals)?;
-        let newest = self.setup.takers.iter().flatten().map(Taker::end).collect::<Result<Vec<_>, _>>()?.into_iter().flatten().collect();
-        let cores = shared.ports.iter().map(|it| lock(&it.stats).clone()).collect();
-        Ok(Report { cores, audit, journal: text, newest, parts: parts(journal, self.cores) })
+        self.setup.takers.iter().flatten().try_for_each(Taker::end)?;
+        Ok(Report { cores: shared.stats(), audit, journal: text, newest, parts: parts(journal, self.cores) })
     }
 
     /// What the library would refuse later, and with fewer words.
@@ -336,6 +341,10 @@ pub struct Here {
 }
 
 impl Here {
+    pub(crate) fn new(core: u32, shared: Arc<Shared>) -> Here {
+        Here { core, shared }
+    }
+
     /// The number of this core.
     pub fn core(&self) -> u32 {
         self.core
@@ -374,58 +383,4 @@ impl Here {
     pub fn handle(&self) -> Handle {
         Handle(Arc::clone(&self.shared))
     }
-}
-
-/// An order of a core to itself, with its answer.
-fn order(core: &mut Core<Job>, make: impl FnOnce(&mut Core<Job>) -> Result<Ticket, fairexec::Error>) -> Result<(), Error> {
-    let ticket = make(core)?;
-    core.deliver()?;
-    core.collect()?;
-    match core.redeem(&ticket)? {
-        Outcome::Answered(Answer::SharesSet | Answer::Created(_)) => Ok(()),
-        Outcome::Answered(answer) => Err(Error::Setup(format!("a queue isn't made: {answer:?}"))),
-        Outcome::Done(_) | Outcome::Back(..) => unreachable!("an order is answered"),
-    }
-}
-
-fn make_queues(core: &mut Core<Job>, queues: &[QueueSetup]) -> Result<(), Error> {
-    let number = core.number();
-    order(core, |it| it.set_shares(number, 0, queues[0].shares))?;
-    queues[1..].iter().try_for_each(|queue| order(core, |it| it.create(number, queue.shares)))
-}
-
-/// The thread of a core. One that fails ends the others.
-fn serve<F, Fut>(mut core: Core<Job>, shared: Arc<Shared>, setup: &Setup, stops: Option<Stops>, begin: &F) -> Result<Core<Job>, Error>
-where
-    F: Fn(Here) -> Fut,
-    Fut: Future + 'static,
-    Fut::Output: Termination,
-{
-    struct Failing(Option<Arc<Shared>>);
-    impl Drop for Failing {
-        fn drop(&mut self) {
-            if let Some(shared) = self.0.take() {
-                shared.ending.fail();
-            }
-        }
-    }
-    let mut failing = Failing(Some(Arc::clone(&shared)));
-    let number = core.number();
-    setup.pin.apply(number)?;
-    let (reactor, bell) = Reactor::new()?;
-    // A ring that fails has no end of the wait, and nobody else to tell. An eventfd fails if the process has closed it.
-    core.set_bell(move || bell.wake().expect("an eventfd takes a ring"));
-    core.set_round_time(setup.round.as_nanos() as u64);
-    on_core(Local::new(number, Arc::clone(&shared), reactor), |local| {
-        let mut driver = Driver::new(local, &mut core, setup);
-        let here = Here { core: number, shared: Arc::clone(&shared) };
-        root::start(&shared, begin(here));
-        if let Some(stops) = stops {
-            stops.watch()?;
-        }
-        driver.run()
-    })?;
-    core.hand_on(&setup.takers[number as usize], &mut Vec::new())?;
-    failing.0 = None;
-    Ok(core)
 }

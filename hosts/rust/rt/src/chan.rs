@@ -22,6 +22,26 @@ pub fn local<T>(room: usize) -> (Sender<T>, Receiver<T>) {
     async_channel::bounded(room)
 }
 
+/// The same for any number of values: a send never waits, and what isn't received takes memory.
+///
+/// ```
+/// use fairexec_rt::{chan, spawn_local, Executor, Queue};
+/// use std::rc::Rc;
+///
+/// Executor::builder().run(|_| async {
+///     let (sender, receiver) = chan::local_unbounded();
+///     for it in 0..1000 {
+///         sender.try_send(Rc::new(it)).unwrap();
+///     }
+///     let first = spawn_local(Queue::FIRST, async move { receiver.recv().await });
+///     assert_eq!(*first.await.unwrap().unwrap(), 0);
+/// })?;
+/// # Ok::<(), fairexec_rt::Error>(())
+/// ```
+pub fn local_unbounded<T>() -> (Sender<T>, Receiver<T>) {
+    async_channel::unbounded()
+}
+
 /// A channel for so many values between any cores and threads: either end may be handed over by [`submit`](crate::submit).
 ///
 /// # Panics
@@ -50,4 +70,25 @@ pub fn local<T>(room: usize) -> (Sender<T>, Receiver<T>) {
 /// ```
 pub fn across<T: Send>(room: usize) -> (Sender<T>, Receiver<T>) {
     async_channel::bounded(room)
+}
+
+/// The same for any number of values: a send never waits, so a thread that is no core may make it.
+///
+/// ```
+/// use fairexec_rt::{chan, Executor};
+///
+/// Executor::builder().cores(2).run(|_| async {
+///     let (sender, receiver) = chan::across_unbounded();
+///     let thread = std::thread::spawn(move || (1..=100).try_for_each(|it| sender.try_send(it)));
+///     let mut sum = 0;
+///     while let Ok(it) = receiver.recv().await {
+///         sum += it;
+///     }
+///     assert_eq!(sum, 5050);
+///     thread.join().unwrap().unwrap();
+/// })?;
+/// # Ok::<(), fairexec_rt::Error>(())
+/// ```
+pub fn across_unbounded<T: Send>() -> (Sender<T>, Receiver<T>) {
+    async_channel::unbounded()
 }

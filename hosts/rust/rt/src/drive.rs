@@ -1,17 +1,17 @@
 //! The loop of a core: what was woken goes into its queues, the library tells what runs, and a core that has nothing to do sleeps.
 
 use crate::builder::Setup;
-use crate::journal::{Notes, Taker};
+use crate::journal::Notes;
 use crate::local::{Job, Local, Sending};
-use crate::report::{CoreStats, QueueStats};
-use crate::shared::lock;
 use crate::Error;
 use fairexec::linked::{Answer, Core, Cx, Outcome, Step, Ticket};
 use fairexec::wall_clock;
+use fairexec::Mode;
 use std::collections::VecDeque;
+use std::sync::atomic::Ordering;
 use std::time::Duration;
 
-/// The statistics for other threads are made after so many nanoseconds.
+/// A core that has work tells its statistics after so many nanoseconds.
 const SHOWN_EVERY: u64 = 20_000_000;
 
 /// Behind so many runs a journal that isn't kept is handed on: that takes some 50 µs, in which nothing else goes on.
@@ -145,9 +145,25 @@ impl<'a> Driver<'a> {
         Driver { local, core, setup, own, text: Vec::new() }
     }
 
-    /// Runs tasks until the executor closes.
+    /// Runs tasks until the executor closes, or until the core fails: then it tells the others, and hands back whatever is inside.
     pub(crate) fn run(&mut self) -> Result<(), Error> {
-        let (mut polled, mut shown, mut is_shown, mut has_told) = (0, 0, false, false);
+        let told = self.run_until_end();
+        if let Err(error) = &told {
+            self.local.shared.ending.fail();
+            if let Error::Library(fairexec::Error::JournalFull) = error {
+                // Nobody judges this journal any more, and what is left to do takes notes.
+                self.core.forget()?;
+                self.core.keep_notes_by(|_| {});
+            }
+            // It may be closed already.
+            let _ = self.core.close(Mode::Return);
+        }
+        let closed = self.close();
+        told.and(closed)
+    }
+
+    fn run_until_end(&mut self) -> Result<(), Error> {
+        let (mut polled, mut shown, mut has_told) = (0, 0, false);
         let reactor_every = self.setup.reactor_every.as_nanos() as u64;
         while !self.local.shared.ending.is_closing() {
             if !has_told && self.local.shared.ending.is_stopping() {
@@ -156,11 +172,10 @@ impl<'a> Driver<'a> {
             }
             let did = self.step()?;
             let now = wall_clock();
-            if now - shown >= SHOWN_EVERY {
-                (shown, is_shown) = (now, !did);
-                self.show();
+            if !did || now - shown >= SHOWN_EVERY {
+                shown = now;
+                self.show(did);
             }
-            is_shown &= !did;
             if did && now - polled < reactor_every {
                 continue;
             }
@@ -168,13 +183,12 @@ impl<'a> Driver<'a> {
                 self.local.reactor.wait(Duration::ZERO, Duration::MAX)?;
             } else {
                 self.tell_quiet(has_told);
-                // What it did since it told its statistics is told once it is time.
-                self.sleep(now, has_told, if is_shown { Duration::MAX } else { Duration::from_nanos(shown + SHOWN_EVERY - now) })?;
+                self.sleep(now, has_told)?;
             }
             polled = wall_clock();
             self.local.reactor.wake();
         }
-        self.close()
+        Ok(())
     }
 
     /// One round. Whether anything happened.
@@ -199,10 +213,10 @@ impl<'a> Driver<'a> {
     ///
     /// Behind a round that did nothing the core has no task that could run, since each that became ready was submitted before that round, and no
     /// room for what is to be sent. So what may come is mail, a link that shows something, and the end.
-    fn sleep(&mut self, now: u64, has_told: bool, longest: Duration) -> Result<(), Error> {
+    fn sleep(&mut self, now: u64, has_told: bool) -> Result<(), Error> {
         let local = self.local;
         let (port, ending) = (&local.shared.ports[local.number as usize], &local.shared.ending);
-        let next = local.timers.next_after(now).unwrap_or(Duration::MAX).min(longest);
+        let next = local.timers.next_after(now).unwrap_or(Duration::MAX);
         let looks = || port.has_mail() || ending.is_closing() || ending.is_stopping() != has_told;
         self.core.wait_by(looks, |longest| local.reactor.wait(longest_sleep(longest), next))?;
         Ok(())
@@ -358,29 +372,20 @@ impl<'a> Driver<'a> {
                 self.core.wait_by(|| port.has_mail(), |longest| local.reactor.wait(longest_sleep(longest), Duration::MAX))?;
             }
         }
-        self.show();
+        self.show(true);
         Ok(())
     }
 
-    /// Makes the statistics for other threads.
-    fn show(&mut self) {
+    /// Tells the statistics to other threads. Those of the library a core tells by itself before it sleeps.
+    fn show(&mut self, is_busy: bool) {
         let local = self.local;
         let port = &local.shared.ports[local.number as usize];
-        let tasks = local.alive.borrow().len() as u64;
-        let queues = local.shared.queues.iter().enumerate();
-        let queues = queues.filter_map(|(number, setup)| {
-            let stats = self.core.stats_of(number as u32).ok()?;
-            Some(QueueStats {
-                name: setup.name.clone(),
-                shares: stats.shares,
-                picks: stats.picks,
-                time: Duration::from_nanos(stats.time as u64),
-                virtual_runtime: stats.virtual_runtime,
-            })
-        });
-        let queues = queues.collect();
-        let turns = self.core.stats().turns;
-        let journal_bytes = self.setup.takers[local.number as usize].as_ref().map_or(0, Taker::bytes);
-        *lock(&port.stats) = CoreStats { core: local.number, turns, tasks, queues, journal_bytes };
+        port.tasks.store(local.alive.borrow().len() as u64, Ordering::Relaxed);
+        if let Some(taker) = &self.setup.takers[local.number as usize] {
+            port.journal_bytes.store(taker.bytes(), Ordering::Relaxed);
+        }
+        if is_busy {
+            self.core.show_stats();
+        }
     }
 }

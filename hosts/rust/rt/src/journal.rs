@@ -1,17 +1,17 @@
 //! What becomes of the journals.
 
+use crate::shared::lock;
 use crate::Error;
-use fairexec::linked::{Core, Journals, Outside, Verdict};
-use std::collections::VecDeque;
+use fairexec::linked::{self, Core, Journals, Outside, Verdict};
 use std::fs::{create_dir_all, File};
 use std::io::{self, Write};
 use std::path::PathBuf;
-use std::sync::{Arc, Mutex, PoisonError};
+use std::sync::{Arc, Mutex};
 
 /// What becomes of the notes that each core makes of what it did.
 ///
-/// The library forgets notes, or hands them on as text, which takes some 250 ns a note. So `Off` costs next to nothing, and `Last` as much as `Parts`
-/// without its writes.
+/// A note costs the same in each case, some nanoseconds. Its text takes some 250 more, which `Parts` pays for each note. `Last` pays it for as many notes
+/// as stay, once for each half of the journal that is filled: with the room that it has at first, one note of 16. `Off` and `Keep` don't pay it.
 ///
 /// ```
 /// use fairexec_rt::{yield_now, Executor, Journal};
@@ -39,95 +39,68 @@ pub enum Journal {
     Keep,
 }
 
-/// Texts of notes, each with their count.
-#[derive(Default)]
-struct Newest {
-    texts: VecDeque<(usize, Vec<u8>)>,
-    count: usize,
-}
-
-impl Newest {
-    /// Takes a text, and forgets the first ones as long as the others have so many notes.
-    fn push(&mut self, text: &[u8], most: usize) {
-        let count = text.iter().filter(|it| **it == b'\n').count();
-        self.texts.push_back((count, text.to_vec()));
-        self.count += count;
-        while self.texts.front().is_some_and(|(first, _)| self.count - first >= most) {
-            self.count -= self.texts.pop_front().map_or(0, |(first, _)| first);
+impl Journal {
+    /// What the library does with the notes.
+    pub(crate) fn linked(&self) -> linked::Journal {
+        match self {
+            Journal::Off => linked::Journal::Forget,
+            Journal::Last(most) => linked::Journal::Last(u32::try_from(*most).unwrap_or(u32::MAX)),
+            Journal::Parts(_) | Journal::Keep => linked::Journal::Keep,
         }
     }
 
-    /// The text of so many notes, the newest.
-    fn text(&self, most: usize) -> String {
-        let all: Vec<u8> = self.texts.iter().flat_map(|(_, text)| text).copied().collect();
-        let all = String::from_utf8_lossy(&all);
-        all.split_inclusive('\n').skip(self.count.saturating_sub(most)).collect()
+    /// The room of a journal in notes, if nobody says it.
+    pub(crate) fn notes(&self, places: u32) -> u32 {
+        let few = 4 * places.max(64);
+        match self {
+            Journal::Off | Journal::Parts(_) => few,
+            Journal::Last(most) => u32::try_from(most.saturating_mul(32)).unwrap_or(u32::MAX).clamp(few, MOST_NOTES),
+            Journal::Keep => MOST_NOTES,
+        }
     }
 }
 
-/// What has the notes of an actor that it doesn't keep.
-enum Place {
-    Newest(usize, Newest),
-    // Why it couldn't be written, if it couldn't.
-    Part(File, Option<io::Error>),
-}
+/// A journal has room for so many notes at most if nobody says it.
+const MOST_NOTES: u32 = 1 << 20;
 
-struct Taken {
-    place: Place,
+struct Part {
+    file: File,
+    // Why it couldn't be written, if it couldn't.
+    failed: Option<io::Error>,
     bytes: u64,
 }
 
-/// Takes the notes of an actor, as its journal says: when that is full, and behind so many runs.
+/// Takes the notes of an actor, if its journal goes to a file: when that is full, and behind so many runs.
 #[derive(Clone)]
-pub(crate) struct Taker(Arc<Mutex<Taken>>);
+pub(crate) struct Taker(Arc<Mutex<Part>>);
 
 impl Taker {
-    /// The taker of this actor, or none if its notes are kept or forgotten.
+    /// The taker of this actor, or none if its notes go to no file.
     pub(crate) fn new(journal: &Journal, actor: u32) -> Result<Option<Taker>, Error> {
-        let place = match journal {
-            Journal::Keep | Journal::Off => return Ok(None),
-            Journal::Last(most) => Place::Newest(*most, Newest::default()),
-            Journal::Parts(folder) => {
-                create_dir_all(folder)?;
-                Place::Part(File::create(folder.join(format!("part{actor}")))?, None)
-            }
-        };
-        Ok(Some(Taker(Arc::new(Mutex::new(Taken { place, bytes: 0 })))))
-    }
-
-    fn with<R>(&self, call: impl FnOnce(&mut Taken) -> R) -> R {
-        call(&mut self.0.lock().unwrap_or_else(PoisonError::into_inner))
+        let Journal::Parts(folder) = journal else { return Ok(None) };
+        create_dir_all(folder)?;
+        let file = File::create(folder.join(format!("part{actor}")))?;
+        Ok(Some(Taker(Arc::new(Mutex::new(Part { file, failed: None, bytes: 0 })))))
     }
 
     pub(crate) fn take(&self, text: &[u8]) {
-        self.with(|it| {
-            it.bytes += text.len() as u64;
-            match &mut it.place {
-                Place::Newest(most, newest) => newest.push(text, *most),
-                Place::Part(file, failed) => {
-                    if let Err(error) = file.write_all(text) {
-                        failed.get_or_insert(error);
-                    }
-                }
-            }
-        });
+        let part = &mut *lock(&self.0);
+        part.bytes += text.len() as u64;
+        if let Err(error) = part.file.write_all(text) {
+            part.failed.get_or_insert(error);
+        }
     }
 
     /// How many bytes of text it took.
     pub(crate) fn bytes(&self) -> u64 {
-        self.with(|it| it.bytes)
+        lock(&self.0).bytes
     }
 
-    /// The newest notes, if they were kept.
-    ///
     /// # Errors
     ///
     /// If a part couldn't be written.
-    pub(crate) fn end(&self) -> Result<Option<String>, Error> {
-        self.with(|it| match &mut it.place {
-            Place::Newest(most, newest) => Ok(Some(newest.text(*most))),
-            Place::Part(_, failed) => failed.take().map_or(Ok(None), |error| Err(error.into())),
-        })
+    pub(crate) fn end(&self) -> Result<(), Error> {
+        lock(&self.0).failed.take().map_or(Ok(()), |error| Err(error.into()))
     }
 }
 
@@ -135,6 +108,7 @@ impl Taker {
 pub(crate) trait Notes {
     fn keep_notes_by(&mut self, takes: impl FnMut(&[u8]) + Send + 'static);
     fn pass_on(&mut self, text: &mut Vec<u8>) -> Result<(), fairexec::Error>;
+    fn newest(&mut self, most: u64, text: &mut Vec<u8>) -> Result<u64, fairexec::Error>;
 
     /// From now on this taker has the notes.
     fn keep(&mut self, taker: &Option<Taker>) {
@@ -151,6 +125,14 @@ pub(crate) trait Notes {
         taker.take(text);
         Ok(())
     }
+
+    /// The newest notes, if this journal keeps them.
+    fn newest_of(&mut self, journal: &Journal) -> Result<Option<String>, fairexec::Error> {
+        let Journal::Last(most) = journal else { return Ok(None) };
+        let mut text = Vec::new();
+        self.newest(*most as u64, &mut text)?;
+        Ok(Some(String::from_utf8_lossy(&text).into_owned()))
+    }
 }
 
 impl<J> Notes for Core<J> {
@@ -161,6 +143,10 @@ impl<J> Notes for Core<J> {
     fn pass_on(&mut self, text: &mut Vec<u8>) -> Result<(), fairexec::Error> {
         Core::pass_on(self, text)
     }
+
+    fn newest(&mut self, most: u64, text: &mut Vec<u8>) -> Result<u64, fairexec::Error> {
+        Core::newest(self, most, text)
+    }
 }
 
 impl<J> Notes for Outside<J> {
@@ -170,6 +156,10 @@ impl<J> Notes for Outside<J> {
 
     fn pass_on(&mut self, text: &mut Vec<u8>) -> Result<(), fairexec::Error> {
         Outside::pass_on(self, text)
+    }
+
+    fn newest(&mut self, most: u64, text: &mut Vec<u8>) -> Result<u64, fairexec::Error> {
+        Outside::newest(self, most, text)
     }
 }
 
@@ -189,24 +179,4 @@ pub(crate) fn judge(journal: &Journal, mut journals: Journals) -> Result<(Option
         Journal::Off | Journal::Last(_) => {}
     }
     Ok((None, None))
-}
-
-#[cfg(test)]
-mod tests {
-    use super::Newest;
-
-    #[test]
-    fn the_newest_notes_stay() {
-        for most in [1, 2, 3, 7, 10, 100] {
-            let mut newest = Newest::default();
-            let mut all: Vec<String> = Vec::new();
-            for number in 0..60 {
-                let text: Vec<String> = (0..number % 4).map(|it| format!("note {number} {it}\n")).collect();
-                newest.push(text.concat().as_bytes(), most);
-                all.extend(text);
-                assert_eq!(newest.text(most), all[all.len().saturating_sub(most)..].concat());
-                assert!(newest.count < most + 4);
-            }
-        }
-    }
 }

@@ -1,10 +1,18 @@
-//! The futures of `Builder::run`, one on each core.
+//! The thread of a core, and the future of `Builder::run` that it starts.
 
-use crate::shared::{Queue, Shared};
+use crate::builder::{Here, Setup};
+use crate::drive::Driver;
+use crate::journal::Notes;
+use crate::local::{on_core, Job, Local};
+use crate::reactor::Reactor;
+use crate::shared::{Queue, QueueSetup, Shared};
+use crate::signal::Stops;
 use crate::stop::Failure;
 use crate::task::spawn_local;
+use crate::Error;
+use fairexec::linked::{Answer, Core, Outcome, Ticket};
 use futures_lite::future::FutureExt;
-use std::error::Error;
+use std::error::Error as AnyError;
 use std::future::Future;
 use std::panic::AssertUnwindSafe;
 use std::sync::Arc;
@@ -25,7 +33,7 @@ use std::sync::Arc;
 /// ```
 pub trait Termination: sealed::Sealed {
     #[doc(hidden)]
-    fn error(self) -> Option<Box<dyn Error + Send + Sync>>;
+    fn error(self) -> Option<Box<dyn AnyError + Send + Sync>>;
 }
 
 mod sealed {
@@ -35,13 +43,13 @@ mod sealed {
 }
 
 impl Termination for () {
-    fn error(self) -> Option<Box<dyn Error + Send + Sync>> {
+    fn error(self) -> Option<Box<dyn AnyError + Send + Sync>> {
         None
     }
 }
 
-impl<E: Into<Box<dyn Error + Send + Sync>>> Termination for Result<(), E> {
-    fn error(self) -> Option<Box<dyn Error + Send + Sync>> {
+impl<E: Into<Box<dyn AnyError + Send + Sync>>> Termination for Result<(), E> {
+    fn error(self) -> Option<Box<dyn AnyError + Send + Sync>> {
         self.err().map(E::into)
     }
 }
@@ -56,7 +64,7 @@ impl Drop for Rooted {
 }
 
 /// Starts the future of this core. Its panic or its error ends the executor.
-pub(crate) fn start<Fut>(shared: &Arc<Shared>, root: Fut)
+fn start<Fut>(shared: &Arc<Shared>, root: Fut)
 where
     Fut: Future + 'static,
     Fut::Output: Termination,
@@ -73,4 +81,70 @@ where
         }
     });
     task.detach();
+}
+
+/// An order of a core to itself, with its answer.
+fn order(core: &mut Core<Job>, make: impl FnOnce(&mut Core<Job>) -> Result<Ticket, fairexec::Error>) -> Result<(), Error> {
+    let ticket = make(core)?;
+    core.deliver()?;
+    core.collect()?;
+    match core.redeem(&ticket)? {
+        Outcome::Answered(Answer::SharesSet | Answer::Created(_)) => Ok(()),
+        Outcome::Answered(answer) => Err(Error::Setup(format!("a queue isn't made: {answer:?}"))),
+        Outcome::Done(_) | Outcome::Back(..) => unreachable!("an order is answered"),
+    }
+}
+
+pub(crate) fn make_queues(core: &mut Core<Job>, queues: &[QueueSetup]) -> Result<(), Error> {
+    let number = core.number();
+    order(core, |it| it.set_shares(number, 0, queues[0].shares))?;
+    queues[1..].iter().try_for_each(|queue| order(core, |it| it.create(number, queue.shares)))
+}
+
+/// The thread of a core that ends, also by a panic.
+struct Leaving<'a>(&'a Local);
+
+impl Drop for Leaving<'_> {
+    fn drop(&mut self) {
+        self.0.shared.ports[self.0.number as usize].close();
+        self.0.drop_tasks();
+    }
+}
+
+/// The thread of a core. One that fails ends the others.
+pub(crate) fn serve<F, Fut>(mut core: Core<Job>, shared: Arc<Shared>, setup: &Setup, stops: Option<Stops>, begin: &F) -> Result<Core<Job>, Error>
+where
+    F: Fn(Here) -> Fut,
+    Fut: Future + 'static,
+    Fut::Output: Termination,
+{
+    struct Failing(Option<Arc<Shared>>);
+    impl Drop for Failing {
+        fn drop(&mut self) {
+            if let Some(shared) = self.0.take() {
+                shared.ending.fail();
+            }
+        }
+    }
+    let mut failing = Failing(Some(Arc::clone(&shared)));
+    let number = core.number();
+    setup.pin.apply(number)?;
+    let (reactor, bell) = Reactor::new()?;
+    // A ring that fails has no end of the wait, and nobody else to tell. An eventfd fails if the process has closed it.
+    core.set_bell(move || bell.wake().expect("an eventfd takes a ring"));
+    core.set_round_time(setup.round.as_nanos() as u64);
+    on_core(Local::new(number, Arc::clone(&shared), reactor), |local| {
+        // However the core ends: nobody waits for a task of it, or for what is in its mail.
+        let _leaving = Leaving(local);
+        let mut driver = Driver::new(local, &mut core, setup);
+        let here = Here::new(number, Arc::clone(&shared));
+        start(&shared, begin(here));
+        if let Some(stops) = stops {
+            stops.watch()?;
+        }
+        driver.run()
+    })?;
+    core.hand_on(&setup.takers[number as usize], &mut Vec::new())?;
+    failing.0 = None;
+    Ok(core)
 }

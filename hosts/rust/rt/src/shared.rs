@@ -2,11 +2,11 @@
 
 use crate::barrier::Barrier;
 use crate::call::{Call, Slot, Start};
-use crate::report::CoreStats;
+use crate::report::{CoreStats, QueueStats};
 use crate::stop::Ending;
 use crate::task::Turn;
-use fairexec::linked::Ringer;
-use std::sync::atomic::{AtomicBool, Ordering};
+use fairexec::linked::{Ringer, Stats};
+use std::sync::atomic::{AtomicBool, AtomicU64, Ordering};
 use std::sync::{Arc, Mutex, MutexGuard, PoisonError};
 use std::time::Duration;
 
@@ -74,22 +74,36 @@ pub(crate) enum Mail {
 pub(crate) struct Port {
     ringer: Ringer,
     has_mail: AtomicBool,
-    mail: Mutex<Vec<Mail>>,
-    pub(crate) stats: Mutex<CoreStats>,
+    // None once the core has ended.
+    mail: Mutex<Option<Vec<Mail>>>,
+    stats: Stats,
+    /// What the library doesn't count: tasks that haven't ended, and bytes of the journal that were passed on.
+    pub(crate) tasks: AtomicU64,
+    pub(crate) journal_bytes: AtomicU64,
 }
 
 impl Port {
-    pub(crate) fn new(ringer: Ringer, stats: CoreStats) -> Port {
-        Port { ringer, has_mail: AtomicBool::new(false), mail: Mutex::default(), stats: Mutex::new(stats) }
+    pub(crate) fn new(ringer: Ringer, stats: Stats) -> Port {
+        let mail = Mutex::new(Some(Vec::new()));
+        Port { ringer, has_mail: AtomicBool::new(false), mail, stats, tasks: AtomicU64::new(0), journal_bytes: AtomicU64::new(0) }
     }
 
-    /// Leaves mail, and then rings: the order that `wait_by` of the wrapper asks for.
+    /// Leaves mail, and then rings: the order that `wait_by` of the wrapper asks for. A core that has ended takes none: the mail is dropped, which tells
+    /// who waits for it.
     pub(crate) fn leave(&self, mail: Mail) {
-        let mut all = lock(&self.mail);
-        all.push(mail);
-        self.has_mail.store(true, Ordering::SeqCst);
-        drop(all);
+        {
+            let mut all = lock(&self.mail);
+            let Some(all) = &mut *all else { return };
+            all.push(mail);
+            self.has_mail.store(true, Ordering::SeqCst);
+        }
         self.ring();
+    }
+
+    /// The core ends. Its mail is dropped, on its thread.
+    pub(crate) fn close(&self) {
+        let mail = lock(&self.mail).take();
+        drop(mail);
     }
 
     pub(crate) fn ring(&self) {
@@ -105,7 +119,7 @@ impl Port {
     pub(crate) fn take(&self) -> Vec<Mail> {
         let mut all = lock(&self.mail);
         self.has_mail.store(false, Ordering::SeqCst);
-        std::mem::take(&mut *all)
+        all.as_mut().map(std::mem::take).unwrap_or_default()
     }
 }
 
@@ -126,6 +140,24 @@ impl Shared {
 
     pub(crate) fn ring_all(&self) {
         self.ports.iter().for_each(Port::ring);
+    }
+
+    /// The counts of all cores.
+    pub(crate) fn stats(&self) -> Vec<CoreStats> {
+        (0..).zip(&self.ports).map(|(core, port)| self.stats_of(core, port)).collect()
+    }
+
+    fn stats_of(&self, core: u32, port: &Port) -> CoreStats {
+        let (stats, queues) = port.stats.read();
+        let queues = self.queues.iter().zip(queues).map(|(setup, it)| QueueStats {
+            name: setup.name.clone(),
+            shares: it.shares,
+            picks: it.picks,
+            time: Duration::from_nanos(it.time as u64),
+            virtual_runtime: it.virtual_runtime,
+        });
+        let [tasks, journal_bytes] = [&port.tasks, &port.journal_bytes].map(|it| it.load(Ordering::Relaxed));
+        CoreStats { core, turns: stats.turns, tasks, queues: queues.collect(), journal_bytes }
     }
 }
 
@@ -157,7 +189,7 @@ impl Handle {
 
     /// The counts of all cores, at most some 20 ms old.
     pub fn stats(&self) -> Vec<CoreStats> {
-        self.0.ports.iter().map(|it| lock(&it.stats).clone()).collect()
+        self.0.stats()
     }
 
     /// As [`stop`](crate::stop()).

@@ -261,5 +261,5 @@ pub fn set_shares(core: u32, queue: Queue, shares: u32) -> Call<()> {
 /// # Ok::<(), fairexec_rt::Error>(())
 /// ```
 pub fn stats() -> Vec<CoreStats> {
-    here(|it| it.shared.ports.iter().map(|port| lock(&port.stats).clone()).collect())
+    here(|it| it.shared.stats())
 }

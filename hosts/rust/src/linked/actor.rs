@@ -419,8 +419,9 @@ macro_rules! submissions {
             self.$($entered)+.seat.newest(most, text)
         }
 
-        /// From now on the text of the notes goes to `takes`, before the journal is full: about a thousand at a time, or all of a journal that has room
-        /// for fewer than two thousand. So `JournalFull` comes only if the journal has room for fewer notes than one call may need. What is kept at
+        /// From now on the text of the notes goes to `takes`, before the journal is full: about a thousand at a time, and no call hands on more than 4096
+        /// or goes on with it for longer than 1 ms. A journal that has room for fewer than 2048, or is nearly full by now, goes out when it is full. So
+        /// `JournalFull` comes only if the journal has room for fewer notes than one call may need. What is kept at
         /// the end goes out by `pass_on`. If `takes` panics, the text goes first to who takes notes the next time, or out by `pass_on`.
         pub fn keep_notes_by(&mut self, takes: impl FnMut(&[u8]) + Send + 'static) {
             self.$($entered)+.seat.keep_notes_by(Box::new(takes));

@@ -1,24 +1,21 @@
 //! A core of a house.
 
 use super::actor::{submissions, Actor, Ticket};
+use super::board::{Shows, Stats};
 use super::cx::Cx;
 use super::lanes::{Bell, Ringer, LONGEST_SLEEP};
 use super::names::{Name, Outcome, Step, Turn};
-use super::seat::{Next, Settled};
-use crate::clock::{now, Clock};
+use super::runs::{hand_back, turn, turns, MOST};
+use crate::clock::Clock;
 use crate::core::Mode;
 use crate::error::Error;
 use crate::stats::{CoreStats, QueueStats};
 use std::collections::VecDeque;
-use std::panic::catch_unwind;
 use std::sync::Arc;
 use std::time::Duration;
 
 /// A round runs jobs for so many nanoseconds at most, or one job, unless `set_round_time` says otherwise.
 const LONGEST: u64 = 5_000;
-
-/// A round delivers so many orders of an actor at most, and runs so many jobs.
-const MOST: u32 = 64;
 
 /// Tells who waits for jobs of a core that it was dropped, as by an error or a panic that ends its thread.
 struct Leaving {
@@ -29,6 +26,7 @@ struct Leaving {
 impl Drop for Leaving {
     fn drop(&mut self) {
         self.bells[self.core as usize].leave();
+        self.bells.iter().for_each(Bell::ring);
     }
 }
 
@@ -76,113 +74,21 @@ pub struct Core<J> {
     may_be_closed: bool,
     // Of each core what tasks of this one spawned there and isn't submitted yet, with its queue.
     pub(super) spawned: Vec<VecDeque<(u32, J)>>,
+    // Its counts for other threads, if somebody asked for them.
+    shows: Option<Shows>,
     // It stands behind the actor, whose seat is freed before.
     _leaving: Leaving,
 }
 
-/// The run of a job. If it ends by a panic, also of the clock, the job counts as done with answer 0, and is dropped.
-struct Running<'a, J> {
-    actor: &'a mut Actor<J>,
-    name: Name,
-    place: u32,
-    clock: Option<Clock>,
-    began: u64,
-    ended: u64,
-    step: Step,
-    settled: Option<Settled>,
-}
-
-impl<J> Running<'_, J> {
-    #[inline]
-    fn settle(&mut self) {
-        // A clock that panics here is charged as little as may be: nothing leaves the core with a job that nobody runs.
-        let clock = self.clock;
-        self.ended = catch_unwind(|| now(clock)).unwrap_or(0);
-        let spent = self.ended.saturating_sub(self.began);
-        let Name { from, to, .. } = self.name;
-        // A job that is done and has something to drop leaves its place before the library gives that on, and is dropped behind it.
-        let _done = match self.step {
-            // SAFETY: the place is this core's until the run is settled, and nobody has the job that stands there any more.
-            Step::Done(_) => unsafe { self.actor.lanes.take_done(from, to, self.place) },
-            Step::Yield | Step::Park => None,
-        };
-        self.settled = self.actor.seat.settle(self.step, spent).ok();
-        debug_assert!(self.settled.is_some());
-        if self.settled == Some(Settled::Done) && from != to {
-            self.actor.lanes.ring(from);
-        }
-    }
-}
-
-impl<J> Drop for Running<'_, J> {
+/// A core that is dropped before its house has ended closes and hands back its jobs, so who waits for one is told that it came back. What it submitted to
+/// itself is dropped with it.
+impl<J> Drop for Core<J> {
     fn drop(&mut self) {
-        if self.settled.is_none() {
-            self.settle();
+        if !self.actor.seat.has_ended() {
+            self.show_stats();
+            hand_back(&mut self.actor.enter());
         }
     }
-}
-
-/// The run of a turn, from one time to another.
-type Times = (u64, u64);
-
-/// Runs the next job of a core once, where it stands. The run began at `since`, if that is told. The answer: what the turn came to, and when the job
-/// ran.
-#[inline]
-fn turn<J, R>(actor: &mut Actor<J>, clock: Option<Clock>, since: Option<u64>, run: R) -> Result<(Turn, Option<Times>), Error>
-where
-    R: FnOnce(&mut J, &mut Cx<'_, J>) -> Step,
-{
-    let (name, queue, place) = match actor.seat.next()? {
-        Next::Run(name, queue, place, is_first) => {
-            if is_first {
-                actor.fresh.start(name);
-            }
-            (name, queue, place)
-        }
-        Next::Back(name) => {
-            actor.fresh.start(name);
-            actor.lanes.ring(name.from);
-            return Ok((Turn::Back(name), None));
-        }
-        Next::Idle => {
-            actor.ring_for_answers(true);
-            return Ok((Turn::Idle, None));
-        }
-    };
-    let mut running = Running { actor, name, place, clock, began: u64::MAX, ended: 0, step: Step::Done(0), settled: None };
-    running.began = since.unwrap_or_else(|| now(clock));
-    // SAFETY: the library told this run, so the place is this core's until the run is settled, and the job is used before that. What a job may do
-    // uses other places: those of its own submissions.
-    if let Some(job) = unsafe { running.actor.lanes.standing(name.from, name.to, place) } {
-        running.step = run(job, &mut Cx::new(running.actor, name, queue));
-    }
-    running.settle();
-    let turn = match running.settled {
-        Some(Settled::Parked) => Turn::Parked,
-        Some(Settled::Queued) => Turn::Yielded,
-        Some(Settled::Done) | None => Turn::Done,
-    };
-    Ok((turn, Some((running.began, running.ended))))
-}
-
-/// Runs jobs, each from the end of the one before, until so much time has passed or no queue has work. Whether there was a job.
-fn turns<J, R>(actor: &mut Actor<J>, clock: Option<Clock>, longest: u64, run: &mut R) -> Result<bool, Error>
-where
-    R: FnMut(&mut J, &mut Cx<'_, J>) -> Step,
-{
-    let (mut first, mut last) = (None, None);
-    for count in 0..MOST {
-        let (turn, times) = turn(actor, clock, last, &mut *run)?;
-        if turn == Turn::Idle {
-            return Ok(count > 0);
-        }
-        let Some((began, ended)) = times else { continue };
-        last = Some(ended);
-        if ended.saturating_sub(*first.get_or_insert(began)) >= longest {
-            break;
-        }
-    }
-    Ok(true)
 }
 
 impl<J> Core<J> {
@@ -191,7 +97,7 @@ impl<J> Core<J> {
     pub(super) fn new(actor: Actor<J>) -> Core<J> {
         let spawned = (0..actor.lanes.cores()).map(|_| VecDeque::new()).collect();
         let leaving = Leaving { bells: Arc::clone(actor.lanes.bells()), core: actor.number };
-        Core { actor, clock: None, longest: LONGEST, may_be_closed: true, spawned, _leaving: leaving }
+        Core { actor, clock: None, longest: LONGEST, may_be_closed: true, spawned, shows: None, _leaving: leaving }
     }
 
     /// Runs are measured by this clock from now on. At first it is the wall's time.
@@ -220,6 +126,7 @@ impl<J> Core<J> {
         R: FnOnce(&mut J, &mut Cx<'_, J>) -> Step,
     {
         let (turn, _) = turn(&mut self.actor.enter(), self.clock, None, run)?;
+        self.count_turns(u32::from(turn != Turn::Idle));
         Ok(turn)
     }
 
@@ -261,6 +168,8 @@ impl<J> Core<J> {
         if may_shut_own && actor.seat.stats().held == 0 {
             did |= actor.shut(std::iter::once(own))?;
         }
+        drop(actor);
+        self.count_turns(u32::from(did));
         Ok(did)
     }
 
@@ -283,8 +192,13 @@ impl<J> Core<J> {
     {
         let mut did = self.deliver_with(needs_own_gate, MOST)?;
         let mut actor = self.actor.enter();
-        did |= turns(&mut actor, self.clock, self.longest, &mut run)?;
+        let ran = turns(&mut actor, self.clock, self.longest, &mut run)?;
+        did |= ran;
         did |= actor.collect()? > 0;
+        drop(actor);
+        if ran {
+            self.count_turns(MOST);
+        }
         Ok(did)
     }
 
@@ -308,6 +222,7 @@ impl<J> Core<J> {
 
     /// Sleeps until another actor submits to this core or gives it an outcome, for 10 ms at most.
     pub fn sleep(&mut self) {
+        self.rest();
         self.actor.enter().sleep(LONGEST_SLEEP);
     }
 
@@ -326,6 +241,7 @@ impl<J> Core<J> {
     /// something, a waker was called, or `looks` tells that the host has something to do for this core. Who gives the host more to do puts it
     /// where `looks` finds it, and rings then.
     pub fn wait_by<T>(&mut self, looks: impl FnOnce() -> bool, wait: impl FnOnce(Duration) -> T) -> T {
+        self.rest();
         let mut entered = self.actor.enter();
         let Actor { seat, number, lanes, .. } = &mut *entered;
         lanes.wait_by(*number, || seat.shows() || looks(), wait)
@@ -358,7 +274,40 @@ impl<J> Core<J> {
 
     /// The counts of the core.
     pub fn stats(&mut self) -> CoreStats {
-        self.actor.enter().seat.stats()
+        CoreStats::of(&self.actor.enter().seat.stats())
+    }
+
+    /// The counts of the core and of its queues, for any thread. From now on the core tells them behind each 1000 turns or some more, and before it
+    /// sleeps.
+    pub fn shared_stats(&mut self) -> Stats {
+        let stats = self.shows.get_or_insert_with(Shows::new).stats();
+        self.show_stats();
+        stats
+    }
+
+    /// Tells them now, if somebody asked for them.
+    #[cold]
+    pub fn show_stats(&mut self) {
+        let Some(shows) = &mut self.shows else { return };
+        let mut actor = self.actor.enter();
+        let core = actor.seat.stats();
+        shows.tell(&core, (0..core.queues).filter_map(|it| actor.seat.stats_of(it).ok()));
+    }
+
+    /// So many turns were made, or deliveries that may make some.
+    #[inline]
+    fn count_turns(&mut self, turns: u32) {
+        if self.shows.as_mut().is_some_and(|it| turns > 0 && it.count(turns)) {
+            self.show_stats();
+        }
+    }
+
+    /// The core has nothing to do.
+    #[inline]
+    fn rest(&mut self) {
+        if self.shows.as_ref().is_some_and(Shows::is_behind) {
+            self.show_stats();
+        }
     }
 
     /// The counts of a queue.
@@ -367,6 +316,6 @@ impl<J> Core<J> {
     ///
     /// `NoQueue`.
     pub fn stats_of(&mut self, queue: u32) -> Result<QueueStats, Error> {
-        self.actor.enter().seat.stats_of(queue)
+        self.actor.enter().seat.stats_of(queue).map(|it| QueueStats::of(&it))
     }
 }

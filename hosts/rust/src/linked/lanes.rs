@@ -44,7 +44,7 @@ pub(super) struct Bell {
 impl Bell {
     /// Tells the actor that there is something to do. [`Lanes::wait_by`] says why no ring is lost.
     #[inline]
-    fn ring(&self) {
+    pub(super) fn ring(&self) {
         if self.sleeps.load(Ordering::SeqCst) {
             self.rouse();
         }

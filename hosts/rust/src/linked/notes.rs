@@ -2,6 +2,8 @@
 
 use crate::error::{refused, Error};
 use crate::raw;
+use std::collections::VecDeque;
+use std::time::{Duration, Instant};
 
 /// What becomes of the notes of each actor. Who takes them by `keep_notes_by` comes before this.
 ///
@@ -27,7 +29,8 @@ pub enum Journal {
     /// They are forgotten before the journal is full. So the house runs without end, and nobody judges it.
     Forget,
     /// The same, and of so many of the newest the text is kept: `newest` tells it, for a look after an incident. It has no audit: what stands before
-    /// it is gone. If the journal has room for many times as many, nearly no note is turned into text.
+    /// it is gone. So many notes are turned into text for each half of the journal that is filled, so if that has room for 32 times as many, a note
+    /// takes some 16 ns more.
     Last(u32),
 }
 
@@ -49,8 +52,12 @@ pub struct NoteCounts {
     pub free: u64,
 }
 
-/// A journal hands its notes on once it keeps so many, if it has room for twice as many.
+/// Notes go on once there are so many, if the journal has room for twice as many.
 pub(super) const PIECE: u64 = 1024;
+
+/// A call that looks after notes turns so many into text at most, or as many as so much time is enough for.
+const MOST: u64 = 4096;
+const LONGEST: Duration = Duration::from_millis(1);
 
 /// A call of the library copies so many notes at most, in some 30 µs.
 const COPIED: u64 = 256;
@@ -64,7 +71,7 @@ pub(super) fn counts(seat: &mut raw::fx_seat) -> Result<NoteCounts, Error> {
 }
 
 /// Forgets the notes that the journal of a seat keeps. How many they were.
-pub(super) fn forget(seat: &mut raw::fx_seat) -> Result<u64, Error> {
+fn forget(seat: &mut raw::fx_seat) -> Result<u64, Error> {
     let mut count = 0;
     // SAFETY: as above.
     refused(unsafe { raw::fx_seat_forget(seat, &mut count) })?;
@@ -83,16 +90,18 @@ fn copy_piece(seat: &mut raw::fx_seat, from: u64, most: u64, text: &mut Vec<u8>)
                 refused(code)?;
                 // SAFETY: the call wrote so many bytes there.
                 unsafe { text.set_len(had + count as usize) };
+                #[cfg(test)]
+                tests::TEXTS.set(tests::TEXTS.get() + notes);
                 return Ok(notes);
             }
         }
     }
 }
 
-/// Puts the text of the notes that the journal of a seat keeps from this place on behind this text. How many notes these are. An error leaves the text as
-/// it was.
-pub(super) fn copy(seat: &mut raw::fx_seat, from: u64, text: &mut Vec<u8>) -> Result<u64, Error> {
-    let (had, mut all) = (text.len(), 0);
+/// Puts the text of notes that the journal of a seat keeps behind this text, from this place on: of all, or of as many as a pause may take. How many
+/// notes these are. An error leaves the text as it was.
+fn copy(seat: &mut raw::fx_seat, from: u64, text: &mut Vec<u8>, is_short: bool) -> Result<u64, Error> {
+    let (had, mut all, began) = (text.len(), 0, Instant::now());
     loop {
         match copy_piece(seat, from + all, COPIED, text) {
             Ok(COPIED) => all += COPIED,
@@ -102,47 +111,127 @@ pub(super) fn copy(seat: &mut raw::fx_seat, from: u64, text: &mut Vec<u8>) -> Re
                 return Err(error);
             }
         }
+        if is_short && (all >= MOST || began.elapsed() >= LONGEST) {
+            return Ok(all);
+        }
     }
 }
 
-/// Puts the text of the notes that the journal of a seat keeps behind this text, and forgets them.
-pub(super) fn pass_on(seat: &mut raw::fx_seat, text: &mut Vec<u8>) -> Result<(), Error> {
-    copy(seat, 0, text)?;
-    forget(seat).map(|_| ())
+/// Of the notes that a journal keeps so many, the oldest, went on as text already.
+#[derive(Default)]
+pub(super) struct Passed(u64);
+
+impl Passed {
+    /// Whether so many that are kept make a piece that didn't go on.
+    pub(super) fn has_piece(&self, kept: u64) -> bool {
+        kept - self.0 >= PIECE
+    }
+
+    /// Whether some went on that are kept still.
+    pub(super) fn is_between(&self) -> bool {
+        self.0 > 0
+    }
+
+    /// Puts the text of notes that didn't go on behind this text: of all, or of as many as a pause may take. Once none is left, the journal forgets
+    /// them.
+    pub(super) fn pass_on(&mut self, seat: &mut raw::fx_seat, text: &mut Vec<u8>, is_short: bool) -> Result<(), Error> {
+        self.0 += copy(seat, self.0, text, is_short)?;
+        if self.0 == counts(seat)?.kept {
+            self.forget(seat)?;
+        }
+        Ok(())
+    }
+
+    /// Forgets the notes that the journal keeps. How many they were.
+    pub(super) fn forget(&mut self, seat: &mut raw::fx_seat) -> Result<u64, Error> {
+        self.0 = 0;
+        forget(seat)
+    }
 }
 
-/// The text of the newest notes of those that were forgotten.
+/// Texts of notes, each with their count, the oldest first.
 #[derive(Default)]
-pub(super) struct Newest {
-    text: Vec<u8>,
+struct Texts {
+    texts: VecDeque<(u64, Vec<u8>)>,
     notes: u64,
 }
 
+impl Texts {
+    fn push(&mut self, notes: u64, text: Vec<u8>) {
+        self.texts.push_back((notes, text));
+        self.notes += notes;
+    }
+
+    /// Puts later texts behind these, and forgets the first ones as long as the others have so many notes.
+    fn append(&mut self, mut later: Texts, most: u64) {
+        self.texts.append(&mut later.texts);
+        self.notes += later.notes;
+        while self.texts.front().is_some_and(|(first, _)| self.notes - first >= most) {
+            self.notes -= self.texts.pop_front().map_or(0, |(first, _)| first);
+        }
+    }
+
+    /// Puts the lines of so many notes, the newest, or of all, behind this text. How many there were.
+    fn tell(&self, most: u64, text: &mut Vec<u8>) -> u64 {
+        let mut gone = self.notes.saturating_sub(most) as usize;
+        for line in self.texts.iter().flat_map(|(_, text)| text.split_inclusive(|byte| *byte == b'\n')) {
+            match gone {
+                0 => text.extend_from_slice(line),
+                _ => gone -= 1,
+            }
+        }
+        self.notes.min(most)
+    }
+}
+
+/// The text of the newest notes, of which the journal doesn't keep all.
+#[derive(Default)]
+pub(super) struct Newest {
+    // Of those that were forgotten.
+    old: Texts,
+    // Of those that the journal keeps and that will be the newest when it forgets them, up to this place. They are copied as they are made, so that no
+    // call has many to copy.
+    next: Texts,
+    at: u64,
+}
+
 impl Newest {
-    /// The lines of so many of them, the newest, or of all.
-    fn last(&self, notes: u64) -> &[u8] {
-        let gone = self.notes.saturating_sub(notes);
-        let mut ends = self.text.iter().enumerate().filter(|(_, byte)| **byte == b'\n').map(|(at, _)| at + 1);
-        let from = if gone == 0 { 0 } else { ends.nth(gone as usize - 1).unwrap_or(self.text.len()) };
-        &self.text[from..]
+    /// Copies what will be among so many of the newest once the journal keeps `goal` notes. It keeps so many now.
+    pub(super) fn follow(&mut self, seat: &mut raw::fx_seat, most: u64, kept: u64, goal: u64) -> Result<(), Error> {
+        let from = self.at.max(goal.saturating_sub(most));
+        if kept > from {
+            let mut text = Vec::new();
+            let notes = copy(seat, from, &mut text, true)?;
+            self.next.push(notes, text);
+            self.at = from + notes;
+        }
+        Ok(())
+    }
+
+    /// Whether some of so many that are kept are to be copied still.
+    pub(super) fn is_behind(&self, kept: u64) -> bool {
+        self.at > 0 && self.at < kept
     }
 
     /// Forgets the notes that the journal of a seat keeps, and has the text of so many of the newest from then on.
     pub(super) fn roll(&mut self, seat: &mut raw::fx_seat, most: u64) -> Result<(), Error> {
+        let from = self.at.max(counts(seat)?.kept.saturating_sub(most));
         let mut text = Vec::new();
-        let notes = self.tell(seat, most, &mut text)?;
+        let notes = copy(seat, from, &mut text, false)?;
         forget(seat)?;
-        (self.text, self.notes) = (text, notes);
+        let mut next = std::mem::take(&mut self.next);
+        next.push(notes, text);
+        self.at = 0;
+        self.old.append(next, most);
         Ok(())
     }
 
-    /// Puts the text of so many of the newest notes behind this text, of those that are kept and of these before them. How many there were.
+    /// Puts the text of so many of the newest notes behind this text, of those that are kept and of those before them. How many there were.
     pub(super) fn tell(&self, seat: &mut raw::fx_seat, most: u64, text: &mut Vec<u8>) -> Result<u64, Error> {
         let kept = counts(seat)?.kept;
         let (had, new) = (text.len(), kept.min(most));
-        let old = self.notes.min(most - new);
-        text.extend_from_slice(self.last(old));
-        if let Err(error) = copy(seat, kept - new, text) {
+        let old = self.old.tell(most - new, text);
+        if let Err(error) = copy(seat, kept - new, text, false) {
             text.truncate(had);
             return Err(error);
         }
@@ -152,14 +241,72 @@ impl Newest {
 
 #[cfg(test)]
 mod tests {
-    use super::Newest;
+    use super::{Journal, Texts, MOST};
+    use crate::error::Error;
+    use crate::linked::{Config, Core, House, Step};
+    use std::cell::Cell;
+
+    thread_local! {
+        // Notes that this thread had turned into text.
+        pub(super) static TEXTS: Cell<u64> = const { Cell::new(0) };
+    }
+
+    /// So many notes at most one call of the core turned into text, and all calls together, while it ran so many jobs.
+    fn texts_of(journal: Journal, jobs: u64) -> Result<(u64, u64, Core<u64>), Error> {
+        let (_house, mut cores, mut outside) = House::open(&Config { notes: 1 << 14, journal, ..Config::default() })?;
+        outside.keep_notes_by(|_| {});
+        let (mut core, mut most, mut all) = (cores.remove(0), 0, 0);
+        core.set_clock(|| 0);
+        for job in 0..jobs {
+            let ticket = outside.submit(0, 0, job).map_err(|(error, _)| error)?;
+            TEXTS.set(0);
+            core.deliver()?;
+            let delivered = TEXTS.replace(0);
+            core.run_turn(|job, _| Step::Done(*job))?;
+            let ran = TEXTS.get();
+            most = most.max(delivered).max(ran);
+            all += delivered + ran;
+            drop(outside.wait_for(&ticket)?);
+        }
+        Ok((most, all, core))
+    }
+
+    // Each job is four notes.
+    #[test]
+    fn no_call_turns_many_notes_into_text() -> Result<(), Error> {
+        let (most, all, _core) = texts_of(Journal::Forget, 8000)?;
+        assert_eq!((most, all), (0, 0));
+        // All of them stay, half of the room, and next to none.
+        for last in [1 << 20, 1 << 13, 5000, 1000, 5] {
+            let (most, all, mut core) = texts_of(Journal::Last(last), 8000)?;
+            assert!(most <= MOST, "{most} of {last}");
+            // The journal was filled to its half less than four times.
+            assert!(all <= 4 * (u64::from(last).min(1 << 13) + 2048), "{all} of {last}");
+            let mut text = Vec::new();
+            let newest = core.newest(u64::from(last), &mut text)?;
+            assert_eq!(newest, u64::from(last).min(32_000));
+            assert!(text.ends_with(b"0 done 1>0#8000 0 = 7999\n"));
+            let names: Vec<u64> = String::from_utf8_lossy(&text).lines().filter_map(|it| it.strip_prefix("0 done 1>0#")?.split(' ').next()?.parse().ok()).collect();
+            assert!(names.windows(2).all(|it| it[1] == it[0] + 1) && names.len() as u64 >= newest / 4);
+        }
+        Ok(())
+    }
 
     #[test]
     fn the_newest_lines_are_the_last() {
-        let newest = Newest { text: b"one\ntwo\nthree\n".to_vec(), notes: 3 };
-        for (notes, text) in [(0, &b""[..]), (1, b"three\n"), (2, b"two\nthree\n"), (3, b"one\ntwo\nthree\n"), (4, b"one\ntwo\nthree\n")] {
-            assert_eq!(newest.last(notes), text);
+        for most in [0, 1, 2, 3, 7, 10, 100] {
+            let (mut texts, mut all) = (Texts::default(), Vec::new());
+            for number in 0..60 {
+                let lines: Vec<String> = (0..number % 4).map(|it| format!("note {number} {it}\n")).collect();
+                let mut later = Texts::default();
+                later.push(lines.len() as u64, lines.concat().into_bytes());
+                texts.append(later, most);
+                all.extend(lines);
+                let (mut told, first) = (b"before\n".to_vec(), all.len().saturating_sub(most as usize));
+                assert_eq!(texts.tell(most, &mut told), (all.len() - first) as u64);
+                assert_eq!(String::from_utf8(told).expect("it is ASCII"), format!("before\n{}", all[first..].concat()));
+                assert!(texts.notes < most + 4);
+            }
         }
-        assert_eq!(Newest::default().last(0), b"");
     }
 }

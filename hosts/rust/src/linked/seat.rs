@@ -1,7 +1,7 @@
 //! A seat of a house: the calls of the library, without the jobs.
 
 use super::names::{Name, Step};
-use super::notes::{counts, forget, pass_on, Journal, Newest, NoteCounts, PIECE};
+use super::notes::{counts, Journal, Newest, NoteCounts, Passed, PIECE};
 use crate::core::Mode;
 use crate::error::{refused, Error};
 use crate::raw;
@@ -42,14 +42,18 @@ struct Keeper {
 /// Behind so many calls that make notes, those that are kept are counted.
 const CALLS: u32 = 256;
 
+/// Behind so many, if not all notes went on that should. They make fewer notes than go on at once.
+const AGAIN: u32 = 16;
+
 /// A seat that was taken. It is freed as it is dropped.
 pub(super) struct Seat {
     handle: raw::fx_seat,
     // What becomes of notes, and the newest of those that were forgotten.
     journal: Journal,
     newest: Newest,
-    // Whoever takes the notes, before that.
+    // Whoever takes the notes, before that, and how far they went on.
     keeper: Option<Keeper>,
+    passed: Passed,
     // The notes are counted behind so many more calls.
     left: u32,
     // The thread that used the seat last. The library asks that a lock, the start or the join of a thread, or a sequentially consistent atomic
@@ -64,7 +68,7 @@ unsafe impl Send for Seat {}
 
 /// A number of this thread, which no other has.
 #[inline]
-fn this_thread() -> u64 {
+pub(super) fn this_thread() -> u64 {
     static THREADS: AtomicU64 = AtomicU64::new(0);
     thread_local! {
         static NUMBER: Cell<u64> = const { Cell::new(0) };
@@ -83,7 +87,7 @@ impl Seat {
     /// The next seat of a house, with its number.
     pub(super) fn take(house: &mut raw::fx_house, journal: Journal) -> Result<(u32, Seat), Error> {
         let handle = raw::fx_seat { at: std::ptr::null_mut() };
-        let mut seat = Seat { handle, journal, newest: Newest::default(), keeper: None, left: CALLS, user: AtomicU64::new(0) };
+        let mut seat = Seat { handle, journal, newest: Newest::default(), keeper: None, passed: Passed::default(), left: CALLS, user: AtomicU64::new(0) };
         let mut actor = 0;
         seat.enter();
         // SAFETY: the house is open, and the seat is empty.
@@ -118,6 +122,10 @@ impl Seat {
             return Ok(());
         }
         self.enter();
+        // Else some notes would be in a part and with the house.
+        if self.passed.is_between() {
+            self.hand_on(false)?;
+        }
         // SAFETY: the house is open, and the seat is of it.
         refused(unsafe { raw::fx_house_end(house, &mut self.handle) })
     }
@@ -131,7 +139,7 @@ impl Seat {
         }
         let code = call(&mut self.handle);
         // If the notes are gone, the journal is as good as new.
-        if code == raw::FX_JOURNAL_FULL && self.hand_on().is_ok() {
+        if code == raw::FX_JOURNAL_FULL && self.hand_on(false).is_ok() {
             return call(&mut self.handle);
         }
         code
@@ -139,45 +147,64 @@ impl Seat {
 
     /// Lets notes go before the journal is full: as soon as there is a piece of them, or half of the room if the newest of them stay. A journal of few
     /// notes, or one that is kept, waits until it is full.
+    ///
+    /// No call of this turns more notes into text than a pause may take. Between two there are some 1000 to 3000 more, so it keeps up with them.
     #[cold]
     fn look(&mut self) {
         self.left = CALLS;
         let Ok(NoteCounts { kept, free }) = self.counts() else { return };
-        let keeps_newest = self.keeper.is_none() && matches!(self.journal, Journal::Last(_));
-        if kept + free >= 2 * PIECE && kept >= PIECE && (kept >= free || !keeps_newest) {
-            // What isn't taken now is the next time.
-            let _ = self.hand_on();
+        if kept + free < 2 * PIECE {
+            return;
+        }
+        // What isn't taken now is the next time.
+        let _ = match (self.keeper.is_some(), self.journal) {
+            (true, _) if self.passed.is_between() || self.passed.has_piece(kept) => self.hand_on(true),
+            (false, Journal::Forget) if kept >= PIECE => self.hand_on(true),
+            (false, Journal::Last(_)) if kept >= free => self.hand_on(true),
+            (false, Journal::Last(most)) => self.newest.follow(&mut self.handle, u64::from(most), kept, (kept + free) / 2),
+            _ => Ok(()),
+        };
+        if self.passed.is_between() || self.newest.is_behind(kept) {
+            self.left = AGAIN;
         }
     }
 
-    /// Whenever the journal is full, its notes go to whoever takes them, behind those that who took them before didn't take.
+    /// From now on notes go to whoever takes them, behind those that who took them before didn't take.
     pub(super) fn keep_notes_by(&mut self, takes: Box<dyn FnMut(&[u8]) + Send>) {
         let text = self.keeper.take().map_or_else(Vec::new, |it| it.text);
         self.keeper = Some(Keeper { takes, text });
     }
 
-    /// Hands the notes to whoever takes them, or forgets them, if they don't stay. A panic leaves their text where it is: it goes first the next time.
+    /// Hands notes to whoever takes them, all or as many as a pause may take, or forgets them, if they don't stay. A panic leaves their text where it
+    /// is: it goes first the next time.
     #[cold]
-    fn hand_on(&mut self) -> Result<(), Error> {
+    fn hand_on(&mut self, is_short: bool) -> Result<(), Error> {
         if let Some(Keeper { takes, text }) = &mut self.keeper {
-            pass_on(&mut self.handle, text)?;
+            self.passed.pass_on(&mut self.handle, text, is_short)?;
             takes(text);
             text.clear();
             return Ok(());
         }
         match self.journal {
             Journal::Keep => Err(Error::JournalFull),
-            Journal::Forget => self.forget().map(|_| ()),
+            Journal::Forget => self.passed.forget(&mut self.handle).map(|_| ()),
             Journal::Last(most) => self.newest.roll(&mut self.handle, u64::from(most)),
         }
+    }
+
+    /// From now on notes go nowhere, and nobody takes them.
+    pub(super) fn forget_all(&mut self) {
+        (self.journal, self.keeper) = (Journal::Forget, None);
     }
 
     pub(super) fn counts(&mut self) -> Result<NoteCounts, Error> {
         counts(&mut self.handle)
     }
 
+    /// Forgets what is kept, and what stayed of the ones before: no note is missed between those that stay.
     pub(super) fn forget(&mut self) -> Result<u64, Error> {
-        forget(&mut self.handle)
+        self.newest = Newest::default();
+        self.passed.forget(&mut self.handle)
     }
 
     pub(super) fn newest(&mut self, most: u64, text: &mut Vec<u8>) -> Result<u64, Error> {
@@ -186,9 +213,11 @@ impl Seat {
 
     /// Puts the text of the notes that the journal keeps behind this text, and before it what wasn't taken.
     pub(super) fn pass_on(&mut self, text: &mut Vec<u8>) -> Result<(), Error> {
-        let Some(keeper) = &mut self.keeper else { return pass_on(&mut self.handle, text) };
-        pass_on(&mut self.handle, &mut keeper.text)?;
-        text.append(&mut keeper.text);
+        let mut none = Vec::new();
+        let untaken = self.keeper.as_mut().map_or(&mut none, |it| &mut it.text);
+        self.passed.pass_on(&mut self.handle, untaken, false)?;
+        text.append(untaken);
+        self.newest = Newest::default();
         Ok(())
     }
 
@@ -243,6 +272,8 @@ impl Seat {
         let mut count = 0;
         // SAFETY: as above.
         refused(self.call(|it| unsafe { raw::fx_seat_collect(it, core, &mut count) }))?;
+        // Each outcome is a note, and another call makes some four.
+        self.left = self.left.saturating_sub(count as u32 / 4).max(1);
         Ok(count)
     }
 
@@ -320,19 +351,19 @@ impl Seat {
         unsafe { raw::fx_seat_shows(&mut self.handle) == raw::FX_OK }
     }
 
-    pub(super) fn stats(&mut self) -> CoreStats {
+    pub(super) fn stats(&mut self) -> raw::fx_core_stats {
         let mut stats = CoreStats::asked();
         // SAFETY: as above.
         let code = unsafe { raw::fx_seat_stats(&mut self.handle, &mut stats) };
         assert_eq!(code, raw::FX_OK);
-        CoreStats::of(&stats)
+        stats
     }
 
-    pub(super) fn stats_of(&mut self, queue: u32) -> Result<QueueStats, Error> {
+    pub(super) fn stats_of(&mut self, queue: u32) -> Result<raw::fx_queue_stats, Error> {
         let mut stats = QueueStats::asked();
         // SAFETY: as above.
         refused(unsafe { raw::fx_seat_stats_of_queue(&mut self.handle, queue, &mut stats) })?;
-        Ok(QueueStats::of(&stats))
+        Ok(stats)
     }
 }
 

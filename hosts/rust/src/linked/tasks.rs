@@ -2,21 +2,18 @@
 
 use super::actor::Ticket;
 use super::core::Core;
+use super::futures::{ending, Body, Join};
 use super::lanes::Bell;
 use super::names::{Name, Step};
 use super::outside::Outside;
 use crate::error::Error;
 use std::cell::RefCell;
 use std::collections::VecDeque;
-use std::fmt;
 use std::future::Future;
 use std::panic::{catch_unwind, resume_unwind, AssertUnwindSafe};
-use std::pin::Pin;
 use std::sync::atomic::{AtomicBool, Ordering};
-use std::sync::{Arc, Mutex, MutexGuard, PoisonError};
+use std::sync::Arc;
 use std::task::{Context, Poll, Wake, Waker};
-
-type BoxedFuture = Pin<Box<dyn Future<Output = ()> + Send>>;
 
 /// A job that is a future. A poll is a run. A task that waits is parked, and its waker, which may be called on any thread, sends a wake.
 ///
@@ -37,7 +34,7 @@ type BoxedFuture = Pin<Box<dyn Future<Output = ()> + Send>>;
 /// # Ok::<(), fairexec::Error>(())
 /// ```
 pub struct Task {
-    future: BoxedFuture,
+    body: Body,
     waking: Option<Arc<Waking>>,
 }
 
@@ -47,10 +44,6 @@ struct Waking {
     // Whether it was called since the task was polled last.
     is_called: AtomicBool,
     bells: Arc<[Bell]>,
-}
-
-fn lock<T>(of: &Mutex<T>) -> MutexGuard<'_, T> {
-    of.lock().unwrap_or_else(PoisonError::into_inner)
 }
 
 impl Wake for Waking {
@@ -65,105 +58,32 @@ impl Wake for Waking {
     }
 }
 
-/// A task that isn't submitted yet: core, queue and task.
-type Request = (u32, u32, Task);
+/// What the tasks spawned that a core polls: tasks that aren't submitted yet, with their core and queue.
+struct Spawned {
+    core: u32,
+    tasks: VecDeque<(u32, u32, Task)>,
+}
 
 thread_local! {
-    // What the task that is polled on this thread spawned.
-    static SPAWNED: RefCell<Option<VecDeque<Request>>> = const { RefCell::new(None) };
+    // Of the core that polls a task on this thread.
+    static SPAWNED: RefCell<Option<Spawned>> = const { RefCell::new(None) };
 }
 
-/// The task was dropped before its end: its core or its queue handed it back or was closed, or it panicked.
-///
-/// ```
-/// use fairexec::linked::{Cancelled, Task};
-///
-/// let (task, join) = Task::new(async { 42 });
-/// drop(task);
-/// assert_eq!(join.take(), Some(Err(Cancelled)));
-/// ```
-#[derive(Clone, Copy, PartialEq, Eq, Debug)]
-pub struct Cancelled;
-
-impl fmt::Display for Cancelled {
-    fn fmt(&self, f: &mut fmt::Formatter<'_>) -> fmt::Result {
-        f.write_str("the task was dropped before its end")
-    }
-}
-
-impl std::error::Error for Cancelled {}
-
-struct Joined<T> {
-    value: Option<Result<T, Cancelled>>,
-    waker: Option<Waker>,
-}
-
-/// What a task comes to. It is a future, and may be dropped: the task runs on.
-///
-/// ```
-/// use fairexec::linked::{spawn, Config, House, Join};
-/// use fairexec::Mode;
-///
-/// let (_house, mut cores, mut outside) = House::open(&Config::default())?;
-/// let (ticket, join): (_, Join<u64>) = outside.spawn(0, 0, async {
-///     let half = spawn(0, 0, async { 21 });
-///     2 * half.await.expect("it ends")
-/// })?;
-/// outside.detach(ticket)?;
-/// outside.close_all(Mode::Finish)?;
-/// while cores[0].step_tasks()?.is_some() {}
-/// assert_eq!(join.take(), Some(Ok(42)));
-/// # Ok::<(), fairexec::Error>(())
-/// ```
-pub struct Join<T>(Arc<Mutex<Joined<T>>>);
-
-impl<T> Join<T> {
-    /// What the task came to, if it ended and this wasn't asked before.
-    pub fn take(&self) -> Option<Result<T, Cancelled>> {
-        lock(&self.0).value.take()
-    }
-}
-
-impl<T> Future for Join<T> {
-    type Output = Result<T, Cancelled>;
-
-    fn poll(self: Pin<&mut Self>, cx: &mut Context<'_>) -> Poll<Self::Output> {
-        let mut joined = lock(&self.0);
-        joined.waker = Some(cx.waker().clone());
-        joined.value.take().map_or(Poll::Pending, Poll::Ready)
-    }
-}
-
-/// Tells who joins: at the end of the task, or as it is dropped before.
-struct Ending<T>(Option<Arc<Mutex<Joined<T>>>>);
-
-impl<T> Ending<T> {
-    fn tell(&mut self, value: Result<T, Cancelled>) {
-        let Some(joined) = self.0.take() else { return };
-        let waker = {
-            let mut joined = lock(&joined);
-            joined.value = Some(value);
-            joined.waker.take()
-        };
-        if let Some(waker) = waker {
-            waker.wake();
-        }
-    }
-}
-
-impl<T> Drop for Ending<T> {
-    fn drop(&mut self) {
-        self.tell(Err(Cancelled));
-    }
+fn with_spawned(call: impl FnOnce(&mut Spawned)) {
+    SPAWNED.with_borrow_mut(|it| call(it.as_mut().expect("a task spawns")));
 }
 
 impl Task {
     /// A future as a job, and what it comes to.
     pub fn new<T: Send + 'static>(future: impl Future<Output = T> + Send + 'static) -> (Task, Join<T>) {
-        let joined = Arc::new(Mutex::new(Joined { value: None, waker: None }));
-        let mut ending = Ending(Some(Arc::clone(&joined)));
-        let future = Box::pin(async move { ending.tell(Ok(future.await)) });
-        (Task { future, waking: None }, Join(joined))
+        let (ending, join) = ending();
+        (Task { body: Body::sent(ending.told_by(future)), waking: None }, join)
+    }
+
+    /// The same of a future that stays on this thread. Who makes it hands it to the core of this thread.
+    fn local<T: 'static>(future: impl Future<Output = T> + 'static) -> (Task, Join<T>) {
+        let (ending, join) = ending();
+        (Task { body: Body::local(ending.told_by(future)), waking: None }, join)
     }
 
     /// One run.
@@ -174,7 +94,7 @@ impl Task {
         // This poll sees what was done before each call of the waker until now. One that comes later has a poll of its own.
         waking.is_called.swap(false, Ordering::AcqRel);
         let waker = Waker::from(Arc::clone(waking));
-        match self.future.as_mut().poll(&mut Context::from_waker(&waker)) {
+        match self.body.poll(&mut Context::from_waker(&waker)) {
             Poll::Ready(()) => Step::Done(0),
             Poll::Pending => Step::Park,
         }
@@ -209,7 +129,47 @@ impl Task {
 /// ```
 pub fn spawn<T: Send + 'static>(core: u32, queue: u32, future: impl Future<Output = T> + Send + 'static) -> Join<T> {
     let (task, join) = Task::new(future);
-    SPAWNED.with_borrow_mut(|spawned| spawned.as_mut().expect("a task spawns").push_back((core, queue, task)));
+    with_spawned(|it| it.tasks.push_back((core, queue, task)));
+    join
+}
+
+/// Starts a task on the core of the task that calls this. Its future needn't be `Send`, and neither need what it comes to. It is polled and dropped on
+/// this thread alone: if its core goes to another thread, its next poll there panics, and a drop there forgets it.
+///
+/// # Panics
+///
+/// Outside a task. There [`Core::spawn_local`] starts one.
+///
+/// ```
+/// use fairexec::linked::{spawn_local, yield_now, Config, House};
+/// use fairexec::Mode;
+/// use std::{cell::Cell, rc::Rc};
+///
+/// let (_house, mut cores, mut outside) = House::open(&Config::default())?;
+/// let (_ticket, join) = outside.spawn(0, 0, async {
+///     // A task that waits for a local one is local, too.
+///     drop(spawn_local(0, async {
+///         let count = Rc::new(Cell::new(0));
+///         let [first, second] = [20, 22].map(|it| {
+///             let count = Rc::clone(&count);
+///             spawn_local(0, async move {
+///                 yield_now().await;
+///                 count.set(count.get() + it);
+///                 count
+///             })
+///         });
+///         assert!(Rc::ptr_eq(&first.await.unwrap(), &second.await.unwrap()));
+///         assert_eq!(count.get(), 42);
+///     }));
+/// })?;
+/// outside.close_all(Mode::Finish)?;
+/// cores[0].run_tasks()?;
+/// assert_eq!(join.take(), Some(Ok(())));
+/// # Ok::<(), fairexec::Error>(())
+/// ```
+pub fn spawn_local<T: 'static>(queue: u32, future: impl Future<Output = T> + 'static) -> Join<T> {
+    let (task, join) = Task::local(future);
+    with_spawned(|it| it.tasks.push_back((it.core, queue, task)));
     join
 }
 
@@ -276,6 +236,29 @@ impl Core<Task> {
         Ok(Some(did))
     }
 
+    /// Starts a task on this core, as [`spawn_local`] does, before the core runs or between two steps.
+    ///
+    /// ```
+    /// use fairexec::linked::{Config, House};
+    /// use fairexec::Mode;
+    /// use std::rc::Rc;
+    ///
+    /// let (_house, mut cores, mut outside) = House::open(&Config::default())?;
+    /// let shared = Rc::new(42);
+    /// let join = cores[0].spawn_local(0, { let shared = Rc::clone(&shared); async move { shared } });
+    /// assert_eq!(cores[0].step_tasks()?, Some(true));
+    /// outside.close_all(Mode::Finish)?;
+    /// cores[0].run_tasks()?;
+    /// assert_eq!(join.take(), Some(Ok(shared)));
+    /// # Ok::<(), fairexec::Error>(())
+    /// ```
+    pub fn spawn_local<T: 'static>(&mut self, queue: u32, future: impl Future<Output = T> + 'static) -> Join<T> {
+        let (task, join) = Task::local(future);
+        let own = self.number();
+        self.spawned[own as usize].push_back((queue, task));
+        join
+    }
+
     /// Sends a wake for each task whose waker was called. Those for which the link or the journal has no place wait.
     fn send_wakes(&mut self, bell: &Bell) -> Result<bool, Error> {
         let mut did = false;
@@ -299,9 +282,9 @@ impl Core<Task> {
     fn round_of_tasks(&mut self, bells: &Arc<[Bell]>) -> Result<bool, Error> {
         let needs_own_gate = !self.spawned[self.number() as usize].is_empty();
         // A task may run another house on this thread.
-        let outer = SPAWNED.replace(Some(VecDeque::new()));
+        let outer = SPAWNED.replace(Some(Spawned { core: self.number(), tasks: VecDeque::new() }));
         let ended = catch_unwind(AssertUnwindSafe(|| self.round_with(needs_own_gate, |task, cx| task.poll(cx.name(), bells))));
-        for (to, queue, task) in SPAWNED.replace(outer).into_iter().flatten() {
+        for (to, queue, task) in SPAWNED.replace(outer).into_iter().flat_map(|it| it.tasks) {
             // There is no other core: the task is dropped.
             if let Some(spawned) = self.spawned.get_mut(to as usize) {
                 spawned.push_back((queue, task));
@@ -348,7 +331,7 @@ impl Outside<Task> {
 
 #[cfg(test)]
 mod tests {
-    use super::lock;
+    use super::super::futures::lock;
     use crate::linked::{Config, House};
     use crate::{Error, Mode};
     use std::future::poll_fn;
