@@ -84,26 +84,6 @@ impl<T> JoinHandle<T> {
 
     /// Lets the task run on. To drop the handle does the same.
     pub fn detach(self) {}
-
-    /// Whether the task has ended, by its value, by a panic or as it was dropped. Then the handle has what it came to.
-    ///
-    /// ```
-    /// use fairexec_rt::{sleep, spawn_local, yield_now, Executor, Queue};
-    /// use std::time::Duration;
-    ///
-    /// Executor::builder().run(|_| async {
-    ///     let sleeps = spawn_local(Queue::FIRST, sleep(Duration::from_secs(3600)));
-    ///     let ends = spawn_local(Queue::FIRST, async { 42 });
-    ///     while !ends.is_finished() {
-    ///         yield_now().await;
-    ///     }
-    ///     assert_eq!((ends.await.unwrap(), sleeps.is_finished()), (42, false));
-    /// })?;
-    /// # Ok::<(), fairexec_rt::Error>(())
-    /// ```
-    pub fn is_finished(&self) -> bool {
-        !self.0.as_ref().is_some_and(|it| !it.is_finished())
-    }
 }
 
 impl<T> Drop for JoinHandle<T> {
