@@ -1,5 +1,5 @@
 -- A chain of entries: what stays as entries change, and what its head and its tail show.
-use Rattle.core_queues.proofs.Names.{ap, append_assoc, arith, chain, IsSome, key_at, length, length-append, next_of, None, Option, refl, shown, Some, suc, sym, Waiting, zero, ℕ, [], ◌++◌, ◌+◌, ◌<◌, ◌∙◌, ◌∷◌, ◌≡◌}
+use Rattle.core_queues.proofs.Words.{ap, append_assoc, arith, chain, IsSome, key_at, length, length-append, next_of, None, Option, refl, shown, Some, suc, sym, Waiting, zero, ℕ, [], ◌++◌, ◌+◌, ◌<◌, ◌∙◌, ◌∷◌, ◌≡◌}
 use Rattle.core_queues.specs.View.{Line}
 
 module _ {J : Type 0} where

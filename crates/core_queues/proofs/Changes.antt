@@ -1,7 +1,7 @@
 -- What it takes that one line changes, that a queue gets shares or a mode, and that there is one more queue.
-use Rattle.core_queues.proofs.Names.{AddsQueue, ap, arith, Bool, cases_eq, cases_lt, chain, ChangesLine, ChangesMode, ChangesParks, ChangesShares, count_by, false, get, get_or-set_other, get_or-set_same, get_or_append_left, get_or_past}
-use Rattle.core_queues.proofs.Names.{get_or_push, is_some, IsKept, IsLinked, IsSome, key_at, length, length-map, length_push, Line, line_at, List, map, Mode, no_line, no_queue, None, Option, Queue, queue_at, refl, set, shown_parked, side}
-use Rattle.core_queues.proofs.Names.{Slab, slab_len, Some, Spot, subst, suc, sum_by-cons, sum_by-set, sum_by_push, sym, true, Waiting, zero, ℕ, [], ⊎_elim, ◌++◌, ◌+◌, ◌<◌, ◌∙◌, ◌∷◌, ◌≡◌, ◌≤◌}
+use Rattle.core_queues.proofs.Words.{AddsQueue, ap, arith, Bool, cases_eq, cases_lt, chain, ChangesLine, ChangesMode, ChangesParks, ChangesShares, count_by, false, get, get_or-set_other, get_or-set_same, get_or_append_left, get_or_past}
+use Rattle.core_queues.proofs.Words.{get_or_push, is_some, IsKept, IsLinked, IsSome, key_at, length, length-map, length_push, Line, line_at, List, map, Mode, no_line, no_queue, None, Option, Queue, queue_at, refl, set, shown_parked, side}
+use Rattle.core_queues.proofs.Words.{Slab, slab_len, Some, Spot, subst, suc, sum_by-cons, sum_by-set, sum_by_push, sym, true, Waiting, zero, ℕ, [], ⊎_elim, ◌++◌, ◌+◌, ◌<◌, ◌∙◌, ◌∷◌, ◌≡◌, ◌≤◌}
 use Rattle.std.proofs.lemmas.List.{length-set}
 use Rattle.core_queues.specs.View.{Line as Says}
 use Rattle.core_queues.proofs.Spots.{waits, parks, other_side, placed, ChangesOne-placed, shares-placed, mode-placed, length-placed, read-set}

@@ -1,5 +1,5 @@
 -- A line that grows at its tail, and one that loses its head.
-use Rattle.core_queues.proofs.Names.{ap, arith, cases_lt, chain, inl, inr, IsLinked, IsSome, key_at, Line, next_of, Option, refl, shown, Some, Spot, subst, suc, sym, Waiting, ℕ, ◌++◌, ◌<◌, ◌∙◌, ◌≡◌, ◌≤◌, ◌⊎◌}
+use Rattle.core_queues.proofs.Words.{ap, arith, cases_lt, chain, inl, inr, IsLinked, IsSome, key_at, Line, next_of, Option, refl, shown, Some, Spot, subst, suc, sym, Waiting, ℕ, ◌++◌, ◌<◌, ◌∙◌, ◌≡◌, ◌≤◌, ◌⊎◌}
 use Rattle.core_queues.proofs.Spots.{ChangesOne, cases_spot}
 use Rattle.core_queues.proofs.Chains.{key_at-second, chain-head}
 use Rattle.core_queues.proofs.Links.{KeepsLines, KeepsLines-entries, Grows, key_at-grown}

@@ -1,6 +1,6 @@
 -- Each entry of the slab stands in a line: there are as many places in the lines as entries, and no two places have one key.
-use Rattle.core_queues.proofs.Names.{ap, arith, Bool, cases_eq, cases_lt, cond, ContainsKey-within, eq-eqb, false, get, is_some, IsLinked, IsSome, job_count, key_at, length, Line, line_at, List, ne_eqb, no_queue, None, Option, Queue}
-use Rattle.core_queues.proofs.Names.{queue_at, refl, Slab, slab_len, slice_index_or, Spot, subst, suc, sum_by_more, sym, take, take_all, true, Waiting, zero, ℕ, ⊎_elim, ◌+◌, ◌<◌, ◌==◌, ◌∙◌, ◌≡◌, ◌≤◌, ◌⊎◌}
+use Rattle.core_queues.proofs.Words.{ap, arith, Bool, cases_eq, cases_lt, cond, ContainsKey-within, eq-eqb, false, get, is_some, IsLinked, IsSome, job_count, key_at, length, Line, line_at, List, ne_eqb, no_queue, None, Option, Queue}
+use Rattle.core_queues.proofs.Words.{queue_at, refl, Slab, slab_len, slice_index_or, Spot, subst, suc, sum_by_more, sym, take, take_all, true, Waiting, zero, ℕ, ⊎_elim, ◌+◌, ◌<◌, ◌==◌, ◌∙◌, ◌≡◌, ◌≤◌, ◌⊎◌}
 use Rattle.std.specs.Prelude.{sum_by}
 use Rattle.core_queues.proofs.Spots.{waits, parks}
 

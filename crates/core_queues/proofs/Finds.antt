@@ -1,7 +1,7 @@
 -- How jobs are found, as lines change.
-use Rattle.core_queues.proofs.Names.{ap, Appends, AreFound, AreSeated, arith, Bool, cases_eq, cases_lt, ContainsKey, false, get, inl, inr, is_some, IsKept, IsSome, JobId, JoinsLines, key_at, LeavesSeat, length, length-replicate, Line}
-use Rattle.core_queues.proofs.Names.{line_at, List, MovesHead, MovesOut, name_at, name_of, Names, next_of, no_line, no_seat, None, Option, parked_counts, parked_keys, Queue, queue_at, refl, Relinks, Renews, replicate, Requeues, Seat}
-use Rattle.core_queues.proofs.Names.{seat_at, set, Slab, slice_index_or, Some, Spot, subst, suc, sym, true, Vacates, Waiting, zero, ℕ, [], ◌+◌, ◌-◌, ◌<◌, ◌∙◌, ◌∷◌, ◌≡◌, ◌≤◌, ◌⊎◌}
+use Rattle.core_queues.proofs.Words.{ap, Appends, AreFound, AreSeated, arith, Bool, cases_eq, cases_lt, ContainsKey, false, get, inl, inr, is_some, IsKept, IsSome, JobId, JoinsLines, key_at, LeavesSeat, length, length-replicate, Line}
+use Rattle.core_queues.proofs.Words.{line_at, List, MovesHead, MovesOut, name_at, name_of, Names, next_of, no_line, no_seat, None, Option, parked_counts, parked_keys, Queue, queue_at, refl, Relinks, Renews, replicate, Requeues, Seat}
+use Rattle.core_queues.proofs.Words.{seat_at, set, Slab, slice_index_or, Some, Spot, subst, suc, sym, true, Vacates, Waiting, zero, ℕ, [], ◌+◌, ◌-◌, ◌<◌, ◌∙◌, ◌∷◌, ◌≡◌, ◌≤◌, ◌⊎◌}
 use Rattle.std.proofs.lemmas.List.{length-set}
 use Rattle.core_queues.proofs.Spots.{waits, parks, other_side, placed, ChangesOne-placed, length-placed}
 use Rattle.core_queues.proofs.Joins.{joined}

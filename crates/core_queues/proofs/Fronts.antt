@@ -1,7 +1,7 @@
 -- The head of a line: it is polled where it stands, and goes to the tail of its own line or of another one by links alone.
-use Rattle.core_queues.proofs.Names.{ap, Appends, AreAtRest, arith, Bool, ChangesLine, cond, ContainsKey, ContainsKey-within, false, get, IfSome, inl, inr, is_some, IsFrontReady, IsKept, IsReady, IsSome, length, Line, line_at, List}
-use Rattle.core_queues.proofs.Names.{Meaning, MovesHead, None, Option, Queue, refl, Relinks, Renews, Requeues, shown, Slab, slab_len, slice_set, Some, subst, sum_by-set, sym, true, Updates, Updates-set, Waiting, waiting_of, ℕ, [], ◌+◌, ◌-◌}
-use Rattle.core_queues.proofs.Names.{◌<◌, ◌∙◌, ◌∷◌, ◌≡◌, ◌⊎◌}
+use Rattle.core_queues.proofs.Words.{ap, Appends, AreAtRest, arith, Bool, ChangesLine, cond, ContainsKey, ContainsKey-within, false, get, IfSome, inl, inr, is_some, IsFrontReady, IsKept, IsReady, IsSome, length, Line, line_at, List}
+use Rattle.core_queues.proofs.Words.{Meaning, MovesHead, None, Option, Queue, refl, Relinks, Renews, Requeues, shown, Slab, slab_len, slice_set, Some, subst, sum_by-set, sym, true, Updates, Updates-set, Waiting, waiting_of, ℕ, [], ◌+◌, ◌-◌}
+use Rattle.core_queues.proofs.Words.{◌<◌, ◌∙◌, ◌∷◌, ◌≡◌, ◌⊎◌}
 use Rattle.core_queues.specs.View.{Line as Says}
 use Rattle.core_queues.proofs.Spots.{waits}
 use Rattle.core_queues.proofs.Changes.{ChangesLine-of}

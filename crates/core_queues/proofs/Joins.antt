@@ -1,6 +1,6 @@
 -- A job comes behind the tail of a line.
-use Rattle.core_queues.proofs.Names.{ap, Appends, arith, chain, ChangesLine, ChangesParks, get, held_count, inl, inr, Inserts, is_some, IsKept, IsLinked, key_at, length, length_push, Line, line_at, List, map, map-append, next_of, parked_of}
-use Rattle.core_queues.proofs.Names.{Queue, Relinks, shown, shown_parked, Slab, slab_len, Some, Spot, subst, suc, sym, Waiting, waiting_of, ℕ, [], ◌++◌, ◌+◌, ◌<◌, ◌∙◌, ◌∷◌, ◌≡◌, ◌⊎◌}
+use Rattle.core_queues.proofs.Words.{ap, Appends, arith, chain, ChangesLine, ChangesParks, get, held_count, inl, inr, Inserts, is_some, IsKept, IsLinked, key_at, length, length_push, Line, line_at, List, map, map-append, next_of, parked_of}
+use Rattle.core_queues.proofs.Words.{Queue, Relinks, shown, shown_parked, Slab, slab_len, Some, Spot, subst, suc, sym, Waiting, waiting_of, ℕ, [], ◌++◌, ◌+◌, ◌<◌, ◌∙◌, ◌∷◌, ◌≡◌, ◌⊎◌}
 use Rattle.core_queues.proofs.Spots.{waits, parks, placed, ChangesOne-placed, job_count-placed, length-placed}
 use Rattle.core_queues.proofs.Links.{KeepsLines, KeepsLines-twice, KeepsLines-insert, KeepsLines-relink, IsLinked-kept, chain-kept, not_in_line, Grows, chain-grown}
 use Rattle.core_queues.proofs.Ends.{IsLinked-grown}

@@ -1,6 +1,6 @@
 -- The job at the head of a line leaves.
-use Rattle.core_queues.proofs.Names.{ap, arith, chain, ChangesLine, get, held_count, IsKept, length, Line, line_at, List, next_of, None, Queue, refl, shown, Slab, slab_len, Some, Spot, subst, sym, Updates, Waiting, waiting_of, ℕ, ◌++◌, ◌+◌}
-use Rattle.core_queues.proofs.Names.{◌-◌, ◌<◌, ◌∙◌, ◌≡◌}
+use Rattle.core_queues.proofs.Words.{ap, arith, chain, ChangesLine, get, held_count, IsKept, length, Line, line_at, List, next_of, None, Queue, refl, shown, Slab, slab_len, Some, Spot, subst, sym, Updates, Waiting, waiting_of, ℕ, ◌++◌, ◌+◌}
+use Rattle.core_queues.proofs.Words.{◌-◌, ◌<◌, ◌∙◌, ◌≡◌}
 use Rattle.core_queues.proofs.Spots.{waits, placed, ChangesOne-placed, job_count-placed, length-placed, shares-placed, mode-placed}
 use Rattle.core_queues.proofs.Links.{KeepsLines, IsLinked-kept, chain-kept}
 use Rattle.core_queues.proofs.Ends.{Shrinks, IsLinked-shrunk, KeepsLines-take, chain-shrunk}

@@ -1,3 +1,4 @@
+mod Words
 pub mod Chains
 pub mod Spots
 pub mod Links

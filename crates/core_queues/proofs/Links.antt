@@ -1,5 +1,5 @@
 -- The lines of all queues: as an entry changes that no line or one tail names, as a line grows at its tail, and as it loses its head.
-use Rattle.core_queues.proofs.Names.{ap, arith, cases_eq, chain, inl, inr, IsLinked, IsSome, key_at, Line, next_of, None, Option, refl, shown, Some, Spot, subst, suc, sym, Waiting, zero, ℕ, ◌<◌, ◌∙◌, ◌≡◌, ◌⊎◌}
+use Rattle.core_queues.proofs.Words.{ap, arith, cases_eq, chain, inl, inr, IsLinked, IsSome, key_at, Line, next_of, None, Option, refl, shown, Some, Spot, subst, suc, sym, Waiting, zero, ℕ, ◌<◌, ◌∙◌, ◌≡◌, ◌⊎◌}
 use Rattle.core_queues.proofs.Chains.{key_at-same, chain-same, IsSome-shown}
 
 module _ {J : Type 0} where

@@ -1,5 +1,5 @@
 -- An entry that is marked leaves each entry where it was.
-use Rattle.core_queues.proofs.Names.{ap, Bool, cases_eq, ContainsKey, inl, inr, is_some, IsLastOr, Line, Option, Relinks, Skips, Slab, Some, Starts, subst, sym, Waiting, ℕ, ◌∙◌, ◌≡◌, ◌⊎◌}
+use Rattle.core_queues.proofs.Words.{ap, Bool, cases_eq, ContainsKey, inl, inr, is_some, IsLastOr, Line, Option, Relinks, Skips, Slab, Some, Starts, subst, sym, Waiting, ℕ, ◌∙◌, ◌≡◌, ◌⊎◌}
 
 -- what stands under one key is one entry
 pub one_entry : {J : Type 0} (found : Option (Waiting J)) (one other : Waiting J) → found ≡ Some one → found ≡ Some other → one ≡ other

@@ -1,5 +1,5 @@
 -- An entry that isn't the head leaves its line: the one before it gets its next key.
-use Rattle.core_queues.proofs.Names.{ap, arith, cases_eq, cases_lt, chain, inl, inr, is_some, IsLinked, IsSome, key_at, Line, next_of, Option, refl, shown, Some, Spot, subst, suc, sym, Waiting, ℕ, ◌++◌, ◌+◌, ◌-◌, ◌<◌, ◌∙◌, ◌≡◌, ◌≤◌, ◌⊎◌}
+use Rattle.core_queues.proofs.Words.{ap, arith, cases_eq, cases_lt, chain, inl, inr, is_some, IsLinked, IsSome, key_at, Line, next_of, Option, refl, shown, Some, Spot, subst, suc, sym, Waiting, ℕ, ◌++◌, ◌+◌, ◌-◌, ◌<◌, ◌∙◌, ◌≡◌, ◌≤◌, ◌⊎◌}
 use Rattle.core_queues.proofs.Chains.{key_at-same, key_at-add, chain-same, chain-add}
 use Rattle.core_queues.proofs.Spots.{ChangesOne, cases_spot}
 use Rattle.core_queues.proofs.Places.{IsLinked-comes}

@@ -1,6 +1,6 @@
 -- A name that no entry has stands in no line.
-use Rattle.core_queues.proofs.Names.{among, ap, arith, Bool, chain, false, get, HoldsNone, JobId, key_at, Line, line_at, List, map, None, one_name, Option, Queue, refl, same_name, shown, shown_parked, Slab, Some, Spot, suc, sym, true}
-use Rattle.core_queues.proofs.Names.{Waiting, zero, ℕ, [], ◌++◌, ◌<◌, ◌||◌, ◌∙◌, ◌∷◌, ◌≡◌}
+use Rattle.core_queues.proofs.Words.{among, ap, arith, Bool, chain, false, get, HoldsNone, JobId, key_at, Line, line_at, List, map, None, one_name, Option, Queue, refl, same_name, shown, shown_parked, Slab, Some, Spot, suc, sym, true}
+use Rattle.core_queues.proofs.Words.{Waiting, zero, ℕ, [], ◌++◌, ◌<◌, ◌||◌, ◌∙◌, ◌∷◌, ◌≡◌}
 use Rattle.core_queues.specs.View.{Line as Says}
 use Rattle.core_queues.proofs.Spots.{waits, parks}
 use Rattle.core_queues.proofs.Views.{alone, line_says, waiting_of-view, parked_of-view}

@@ -1,5 +1,5 @@
 -- A job that goes from its place in one line to the tail of another, seen as one that leaves the slab and comes in again.
-use Rattle.core_queues.proofs.Names.{ap, Appends, arith, cases_eq, false, get, inl, inr, IsLastOr, Line, MovesOut, refl, Relinks, Slab, slab_len, Some, sym, Waiting, ℕ, ◌+◌, ◌<◌, ◌∙◌, ◌≡◌, ◌⊎◌}
+use Rattle.core_queues.proofs.Words.{ap, Appends, arith, cases_eq, false, get, inl, inr, IsLastOr, Line, MovesOut, refl, Relinks, Slab, slab_len, Some, sym, Waiting, ℕ, ◌+◌, ◌<◌, ◌∙◌, ◌≡◌, ◌⊎◌}
 use Rattle.core_queues.proofs.Fronts.{removed, removes, marked, removed-len}
 use Rattle.core_queues.proofs.Takes.{TakesOut}
 

@@ -1,6 +1,6 @@
 -- The slips of queues, each at the place of its own queue.
-use Rattle.core_queues.proofs.Names.{ap, arith, cases_eq, cases_lt, get_or, get_or-map, get_or-set_other, get_or-set_same, get_or_append_left, get_or_past, get_or_push, get_or_read, HasOwnSlips, IfSome, inl, inr, is_some, length}
-use Rattle.core_queues.proofs.Names.{length_push, linked_view, List, map, map-set, None, Option, Queue, refl, set, Slab, Some, suc, sym, Waiting, zero, ℕ, [], ◌++◌, ◌+◌, ◌<◌, ◌∙◌, ◌∷◌, ◌≡◌, ◌≤◌}
+use Rattle.core_queues.proofs.Words.{ap, arith, cases_eq, cases_lt, get_or, get_or-map, get_or-set_other, get_or-set_same, get_or_append_left, get_or_past, get_or_push, get_or_read, HasOwnSlips, IfSome, inl, inr, is_some, length}
+use Rattle.core_queues.proofs.Words.{length_push, linked_view, List, map, map-set, None, Option, Queue, refl, set, Slab, Some, suc, sym, Waiting, zero, ℕ, [], ◌++◌, ◌+◌, ◌<◌, ◌∙◌, ◌∷◌, ◌≡◌, ◌≤◌}
 use Rattle.std.specs.Prelude.{◌⊎◌, Bool, true, false}
 use Rattle.std.proofs.lemmas.List.{length-set}
 

@@ -1,6 +1,6 @@
 -- The keys of parked jobs, as lines change.
-use Rattle.core_queues.proofs.Names.{ap, Appends, arith, Bool, cases_eq, get, inl, inr, IsKept, key_at, length, Line, line_at, List, parked_counts, parked_keys, Queue, refl, Requeues, Slab, Spot, subst, suc, sym, Waiting, ℕ, ◌+◌, ◌<◌, ◌∙◌}
-use Rattle.core_queues.proofs.Names.{◌≡◌, ◌⊎◌}
+use Rattle.core_queues.proofs.Words.{ap, Appends, arith, Bool, cases_eq, get, inl, inr, IsKept, key_at, length, Line, line_at, List, parked_counts, parked_keys, Queue, refl, Requeues, Slab, Spot, subst, suc, sym, Waiting, ℕ, ◌+◌, ◌<◌, ◌∙◌}
+use Rattle.core_queues.proofs.Words.{◌≡◌, ◌⊎◌}
 use Rattle.core_queues.proofs.Chains.{key_at-same}
 use Rattle.core_queues.proofs.Spots.{waits, parks, other_side, placed, ChangesOne-placed, length-placed}
 use Rattle.core_queues.proofs.Links.{KeepsLines, key_at-grown}

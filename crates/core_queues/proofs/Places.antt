@@ -1,5 +1,5 @@
 -- Lines whose places come from the places of other lines: two lines become one, and a line loses an entry that isn't its head.
-use Rattle.core_queues.proofs.Names.{ap, arith, cases_lt, chain, inl, inr, IsLinked, IsSome, key_at, Line, Option, refl, shown, Spot, subst, suc, sym, Waiting, zero, ℕ, ◌++◌, ◌+◌, ◌-◌, ◌<◌, ◌∙◌, ◌≡◌, ◌≤◌, ◌⊎◌}
+use Rattle.core_queues.proofs.Words.{ap, arith, cases_lt, chain, inl, inr, IsLinked, IsSome, key_at, Line, Option, refl, shown, Spot, subst, suc, sym, Waiting, zero, ℕ, ◌++◌, ◌+◌, ◌-◌, ◌<◌, ◌∙◌, ◌≡◌, ◌≤◌, ◌⊎◌}
 use Rattle.core_queues.proofs.Chains.{key_at-add, chain-add}
 use Rattle.core_queues.proofs.Spots.{cases_spot}
 

@@ -1,6 +1,6 @@
 -- What callers need of the words for queues.
-use Rattle.core_queues.proofs.Names.{ap, arith, cases_lt, get_or, get_or-le-sum_by, get_or_past, held_count, held_in, length, List, nil_from_length, parked_of, queue_count, QueuesView, QueueView, refl, shares_of, suc, sum_by, sum_by-cons}
-use Rattle.core_queues.proofs.Names.{waiting_of, ℕ, [], ⊎_elim, ◌+◌, ◌<◌, ◌∷◌, ◌≡◌, ◌≤◌}
+use Rattle.core_queues.proofs.Words.{ap, arith, cases_lt, get_or, get_or-le-sum_by, get_or_past, held_count, held_in, length, List, nil_from_length, parked_of, queue_count, QueuesView, QueueView, refl, shares_of, suc, sum_by, sum_by-cons}
+use Rattle.core_queues.proofs.Words.{waiting_of, ℕ, [], ⊎_elim, ◌+◌, ◌<◌, ◌∷◌, ◌≡◌, ◌≤◌}
 use Rattle.core_queues.specs.View.{no_queue}
 
 module _ {J : Type 0} where

@@ -1,6 +1,6 @@
 -- An entry becomes another one with the same next key: its job was polled, or its marks change.
-use Rattle.core_queues.proofs.Names.{ap, arith, cases_eq, chain, get, inl, inr, is_some, IsKept, IsLinked, IsSome, key_at, length, length-append, Line, line_at, List, next_of, Option, Queue, refl, shown, Slab, slab_len, Some, Spot, subst}
-use Rattle.core_queues.proofs.Names.{suc, sym, Updates, Waiting, ℕ, ◌++◌, ◌+◌, ◌<◌, ◌∙◌, ◌≡◌, ◌⊎◌}
+use Rattle.core_queues.proofs.Words.{ap, arith, cases_eq, chain, get, inl, inr, is_some, IsKept, IsLinked, IsSome, key_at, length, length-append, Line, line_at, List, next_of, Option, Queue, refl, shown, Slab, slab_len, Some, Spot, subst}
+use Rattle.core_queues.proofs.Words.{suc, sym, Updates, Waiting, ℕ, ◌++◌, ◌+◌, ◌<◌, ◌∙◌, ◌≡◌, ◌⊎◌}
 use Rattle.core_queues.specs.View.{Line as Says}
 use Rattle.core_queues.proofs.Chains.{key_at-same, key_at-add, chain-same, chain-at}
 use Rattle.core_queues.proofs.Changes.{Writes}

@@ -1,5 +1,5 @@
 -- Parked jobs stay marked as started and with no wake, as lines change.
-use Rattle.core_queues.proofs.Names.{ap, AreAtRest, awake, chain, drop, false, get, inl, inr, IsAtRest, JobId, List, map, Marks, Queue, refl, shown_parked, Slab, Spot, subst, suc, sym, true, Waiting, zero, [], ◌++◌, ◌∙◌, ◌∷◌, ◌≡◌, ◌⊎◌}
+use Rattle.core_queues.proofs.Words.{ap, AreAtRest, awake, chain, drop, false, get, inl, inr, IsAtRest, JobId, List, map, Marks, Queue, refl, shown_parked, Slab, Spot, subst, suc, sym, true, Waiting, zero, [], ◌++◌, ◌∙◌, ◌∷◌, ◌≡◌, ◌⊎◌}
 use Rattle.core_queues.specs.View.{Line}
 use Rattle.core_queues.proofs.Spots.{parks, cases_spot}
 use Rattle.core_queues.proofs.Changes.{Writes}

@@ -1,6 +1,6 @@
 -- The seats as one is left, and the one behind it is told the key before it.
-use Rattle.core_queues.proofs.Names.{ap, arith, cases_eq, false, get_or-set_other, get_or-set_same, get_or_read, inl, inr, LeavesSeat, length, Line, List, no_seat, refl, Seat, seat_at, set, slice_index_or, suc, sym, Vacates, ℕ, ◌+◌, ◌<◌}
-use Rattle.core_queues.proofs.Names.{◌∙◌, ◌≡◌, ◌⊎◌}
+use Rattle.core_queues.proofs.Words.{ap, arith, cases_eq, false, get_or-set_other, get_or-set_same, get_or_read, inl, inr, LeavesSeat, length, Line, List, no_seat, refl, Seat, seat_at, set, slice_index_or, suc, sym, Vacates, ℕ, ◌+◌, ◌<◌}
+use Rattle.core_queues.proofs.Words.{◌∙◌, ◌≡◌, ◌⊎◌}
 use Rattle.std.proofs.lemmas.List.{length-set}
 
 -- a seat that was read

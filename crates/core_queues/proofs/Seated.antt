@@ -1,6 +1,6 @@
 -- The seats of parked jobs, as one comes behind the others, as one leaves, and as all of a queue do.
-use Rattle.core_queues.proofs.Names.{ap, AreSeated, arith, cases_eq, cases_lt, false, get_or-set_other, get_or-set_same, HasPlace, HasSeat, inl, inr, LeavesSeat, length, Line, List, no_seat, refl, Seat, seat_at, set, subst, suc, sym, true}
-use Rattle.core_queues.proofs.Names.{Vacates, zero, ℕ, ⊎_elim, ◌+◌, ◌<◌, ◌∙◌, ◌≡◌, ◌≤◌, ◌⊎◌}
+use Rattle.core_queues.proofs.Words.{ap, AreSeated, arith, cases_eq, cases_lt, false, get_or-set_other, get_or-set_same, HasPlace, HasSeat, inl, inr, LeavesSeat, length, Line, List, no_seat, refl, Seat, seat_at, set, subst, suc, sym, true}
+use Rattle.core_queues.proofs.Words.{Vacates, zero, ℕ, ⊎_elim, ◌+◌, ◌<◌, ◌∙◌, ◌≡◌, ◌≤◌, ◌⊎◌}
 use Rattle.std.proofs.lemmas.List.{length-set}
 
 false_true : false ≡ true → ⊥

@@ -1,6 +1,6 @@
 -- The lines of all queues by their spots, as one of them is written.
-use Rattle.core_queues.proofs.Names.{ap, arith, Bool, cases_eq, false, get_or-le-sum_by, get_or-set_other, get_or-set_same, get_or_read, inl, inr, job_count, length, Line, line_at, List, no_queue, Queue, queue_at, refl, set, set-set, side}
-use Rattle.core_queues.proofs.Names.{Spot, sum_by-set, sym, true, ℕ, ⊎_elim, ◌+◌, ◌<◌, ◌∙◌, ◌≡◌, ◌≤◌, ◌⊎◌}
+use Rattle.core_queues.proofs.Words.{ap, arith, Bool, cases_eq, false, get_or-le-sum_by, get_or-set_other, get_or-set_same, get_or_read, inl, inr, job_count, length, Line, line_at, List, no_queue, Queue, queue_at, refl, set, set-set, side}
+use Rattle.core_queues.proofs.Words.{Spot, sum_by-set, sym, true, ℕ, ⊎_elim, ◌+◌, ◌<◌, ◌∙◌, ◌≡◌, ◌≤◌, ◌⊎◌}
 use Rattle.std.proofs.Common.{slice_index_or}
 use Rattle.std.proofs.lemmas.List.{length-set}
 

@@ -1,6 +1,6 @@
 -- A job at a known place leaves its line and the slab.
-use Rattle.core_queues.proofs.Names.{ap, arith, cases_lt, ContainsKey, get, inl, inr, IsKept, IsLastOr, JobId, key_at, length, length-append, Line, line_at, List, None, Queue, Relinks, shown, Skips, Slab, slab_len, Some, Spot, subst, suc}
-use Rattle.core_queues.proofs.Names.{sym, Updates, Waiting, ℕ, [], ⊎_elim, ◌++◌, ◌+◌, ◌-◌, ◌<◌, ◌∙◌, ◌≡◌, ◌≤◌, ◌⊎◌}
+use Rattle.core_queues.proofs.Words.{ap, arith, cases_lt, ContainsKey, get, inl, inr, IsKept, IsLastOr, JobId, key_at, length, length-append, Line, line_at, List, None, Queue, Relinks, shown, Skips, Slab, slab_len, Some, Spot, subst, suc}
+use Rattle.core_queues.proofs.Words.{sym, Updates, Waiting, ℕ, [], ⊎_elim, ◌++◌, ◌+◌, ◌-◌, ◌<◌, ◌∙◌, ◌≡◌, ◌≤◌, ◌⊎◌}
 use Rattle.core_queues.specs.View.{Line as Says}
 use Rattle.core_queues.proofs.Spots.{placed, ChangesOne-placed, job_count-placed, length-placed}
 use Rattle.core_queues.proofs.Changes.{Writes, Writes-placed}

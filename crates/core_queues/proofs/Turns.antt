@@ -1,6 +1,6 @@
 -- The head of a line leaves it, and joins it again at the tail, or is parked.
-use Rattle.core_queues.proofs.Names.{Appends, AreAtRest, arith, awake, Bool, ChangesLine, ChangesParks, false, get, IsKept, IsWithinLimits, length, Line, line_at, List, MovesHead, parked_of, ParksOrStays, Queue, queue_at, QueuesView, refl}
-use Rattle.core_queues.proofs.Names.{Requeues, RestsFront, set, shown, Slab, slab_len, Some, subst, sym, true, TurnsLine, Waiting, waiting_of, ℕ, [], ◌++◌, ◌<◌, ◌∷◌, ◌≡◌}
+use Rattle.core_queues.proofs.Words.{Appends, AreAtRest, arith, awake, Bool, ChangesLine, ChangesParks, false, get, IsKept, IsWithinLimits, length, Line, line_at, List, MovesHead, parked_of, ParksOrStays, Queue, queue_at, QueuesView, refl}
+use Rattle.core_queues.proofs.Words.{Requeues, RestsFront, set, shown, Slab, slab_len, Some, subst, sym, true, TurnsLine, Waiting, waiting_of, ℕ, [], ◌++◌, ◌<◌, ◌∷◌, ◌≡◌}
 use Rattle.core_queues.proofs.Spots.{waits, parks, other_side, placed, ChangesOne-placed, length-placed, placed-set}
 use Rattle.core_queues.proofs.Leaves.{IsKept-left, Writes-left, waiting_of-left, ChangesLine-left}
 use Rattle.core_queues.proofs.Joins.{IsKept-joined, Writes-joined, ChangesLine-joined, ChangesParks-joined}

@@ -1,6 +1,6 @@
 -- Parked jobs come to the line of their queue: all at once, by one key, or one that was found.
-use Rattle.core_queues.proofs.Names.{ap, AreAtRest, arith, awake, cases_eq, chain, ChangesLine, get, get_or-le-sum_by, held_count, inl, inr, IsAtRest, IsKept, IsLinked, JoinsLines, key_at, length, Line, line_at, List, map, Moves, next_of}
-use Rattle.core_queues.proofs.Names.{no_line, no_queue, parked_of, Queue, queue_at, QueuesView, refl, Relinks, set, shown_parked, Slab, slab_len, Spot, subst, suc, sym, true, Waiting, waiting_of, ℕ, [], ◌++◌, ◌+◌, ◌<◌, ◌∙◌, ◌≡◌, ◌≤◌, ◌⊎◌}
+use Rattle.core_queues.proofs.Words.{ap, AreAtRest, arith, awake, cases_eq, chain, ChangesLine, get, get_or-le-sum_by, held_count, inl, inr, IsAtRest, IsKept, IsLinked, JoinsLines, key_at, length, Line, line_at, List, map, Moves, next_of}
+use Rattle.core_queues.proofs.Words.{no_line, no_queue, parked_of, Queue, queue_at, QueuesView, refl, Relinks, set, shown_parked, Slab, slab_len, Spot, subst, suc, sym, true, Waiting, waiting_of, ℕ, [], ◌++◌, ◌+◌, ◌<◌, ◌∙◌, ◌≡◌, ◌≤◌, ◌⊎◌}
 use Rattle.core_queues.specs.View.{Line as Says, Parks as Parked}
 use Rattle.core_queues.specs.Parks.{ChangesParks}
 use Rattle.core_queues.proofs.Chains.{key_at-add}

@@ -1,6 +1,6 @@
 -- What the slab and the lines show: shares, lines, parked jobs and how many jobs there are.
-use Rattle.core_queues.proofs.Names.{ap, arith, chain, ContainsKey, get, get_or, held_count, held_in, IsKept, IsWithinLimits, job_count, length, length-map, Line, line_at, List, map, mode_of, no_queue, parked_of, Queue, queue_at}
-use Rattle.core_queues.proofs.Names.{queue_count, queue_of, QueuesView, QueueView, refl, shares_of, shown_parked, Slab, slab_len, Spot, subst, suc, sum_by, sum_by-cons, sym, Waiting, waiting_of, zero, ℕ, [], ◌+◌, ◌<◌, ◌∙◌, ◌∷◌, ◌≡◌, ◌≤◌}
+use Rattle.core_queues.proofs.Words.{ap, arith, chain, ContainsKey, get, get_or, held_count, held_in, IsKept, IsWithinLimits, job_count, length, length-map, Line, line_at, List, map, mode_of, no_queue, parked_of, Queue, queue_at}
+use Rattle.core_queues.proofs.Words.{queue_count, queue_of, QueuesView, QueueView, refl, shares_of, shown_parked, Slab, slab_len, Spot, subst, suc, sum_by, sum_by-cons, sym, Waiting, waiting_of, zero, ℕ, [], ◌+◌, ◌<◌, ◌∙◌, ◌∷◌, ◌≡◌, ◌≤◌}
 use Rattle.core_queues.specs.View.{Line as Says}
 use Rattle.core_queues.proofs.Chains.{length-chain}
 use Rattle.core_queues.proofs.Spots.{waits, parks, count-le-job_count}

@@ -1,7 +1,7 @@
 -- What a wake does: a parked job that was found comes to the line of its queue, and of one that waits the wake is kept.
-use Rattle.core_queues.proofs.Names.{ap, Appends, AreAtRest, AreFound, arith, awake, Bool, cases_lt, ChangesLine, false, get, get_or_past, held_count, inl, inr, is_some, IsAtRest, IsKept, JobId, KeepsWake, KeepsWakeOf, key_at, LeavesSeat}
-use Rattle.core_queues.proofs.Names.{length, Line, line_at, List, map, map-append, MovesOut, name_at, Names, no_queue, parked_counts, parked_keys, Queue, queue_at, QueuesView, refl, Seat, seat_at, set, shown, shown_parked, Slab, slab_len}
-use Rattle.core_queues.proofs.Names.{Some, subst, suc, sym, true, Waiting, waiting_of, WakesParked, ℕ, [], ◌++◌, ◌+◌, ◌-◌, ◌<◌, ◌∙◌, ◌∷◌, ◌≡◌, ◌≤◌, ◌⊎◌}
+use Rattle.core_queues.proofs.Words.{ap, Appends, AreAtRest, AreFound, arith, awake, Bool, cases_lt, ChangesLine, false, get, get_or_past, held_count, inl, inr, is_some, IsAtRest, IsKept, JobId, KeepsWake, KeepsWakeOf, key_at, LeavesSeat}
+use Rattle.core_queues.proofs.Words.{length, Line, line_at, List, map, map-append, MovesOut, name_at, Names, no_queue, parked_counts, parked_keys, Queue, queue_at, QueuesView, refl, Seat, seat_at, set, shown, shown_parked, Slab, slab_len}
+use Rattle.core_queues.proofs.Words.{Some, subst, suc, sym, true, Waiting, waiting_of, WakesParked, ℕ, [], ◌++◌, ◌+◌, ◌-◌, ◌<◌, ◌∙◌, ◌∷◌, ◌≡◌, ◌≤◌, ◌⊎◌}
 use Rattle.core_queues.specs.View.{Line as Says, Parks as Parked}
 use Rattle.core_queues.specs.Parks.{ChangesParks}
 use Rattle.core_queues.proofs.Marked.{one_entry}

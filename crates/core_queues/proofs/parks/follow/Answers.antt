@@ -1,4 +1,4 @@
-use Rattle.core_queues.proofs.Names.{arith, inl, inr, refl, ℕ, ◌<◌, ◌≡◌}
+use Rattle.core_queues.proofs.Words.{arith, inl, inr, refl, ℕ, ◌<◌, ◌≡◌}
 use Rattle.core_queues.proofs.parks.follow.Goals as goal
 
 some-count : (n : ℕ) → (n ≡ 0 → ⊥) → 0 < n

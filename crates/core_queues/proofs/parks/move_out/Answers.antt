@@ -1,4 +1,4 @@
-use Rattle.core_queues.proofs.Names.{ContainsKey, false, refl, Skips, subst, ◌<◌}
+use Rattle.core_queues.proofs.Words.{ContainsKey, false, refl, Skips, subst, ◌<◌}
 use Rattle.core_queues.proofs.Marked.{still_filled, skipped_filled}
 use Rattle.core_queues.proofs.parks.move_out.Goals as goal
 

@@ -1,4 +1,4 @@
-use Rattle.core_queues.proofs.Names.{inl, inr, refl}
+use Rattle.core_queues.proofs.Words.{inl, inr, refl}
 use Rattle.core_queues.proofs.parks.skip.Goals as goal
 
 pub link-requires : goal.link-requires

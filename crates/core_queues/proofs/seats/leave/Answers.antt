@@ -1,4 +1,4 @@
-use Rattle.core_queues.proofs.Names.{arith, false, length-set, Seat}
+use Rattle.core_queues.proofs.Words.{arith, false, length-set, Seat}
 use Rattle.core_queues.proofs.SeatWrites.{LeavesSeat-last, LeavesSeat-told}
 use Rattle.core_queues.proofs.seats.leave.Goals as goal
 

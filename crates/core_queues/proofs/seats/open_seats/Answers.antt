@@ -1,4 +1,4 @@
-use Rattle.core_queues.proofs.Names.{no_seat, resized, ◌∙◌}
+use Rattle.core_queues.proofs.Words.{no_seat, resized, ◌∙◌}
 use Rattle.core_queues.proofs.seats.open_seats.Goals as goal
 
 pub returns : goal.returns

@@ -1,4 +1,4 @@
-use Rattle.core_queues.proofs.Names.{ap, Seat, ◌∙◌}
+use Rattle.core_queues.proofs.Words.{ap, Seat, ◌∙◌}
 use Rattle.core_queues.proofs.SeatWrites.{seat_read}
 use Rattle.core_queues.proofs.seats.read_seat.Goals as goal
 

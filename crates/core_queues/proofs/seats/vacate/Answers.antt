@@ -1,4 +1,4 @@
-use Rattle.core_queues.proofs.Names.{ap, arith, ContainsKey, get, key_at, length, next_of, refl, subst, suc, sym, Vacates, Waiting, ◌+◌, ◌<◌, ◌∙◌, ◌≡◌}
+use Rattle.core_queues.proofs.Words.{ap, arith, ContainsKey, get, key_at, length, next_of, refl, subst, suc, sym, Vacates, Waiting, ◌+◌, ◌<◌, ◌∙◌, ◌≡◌}
 use Rattle.core_queues.proofs.SeatWrites.{Vacates-none, Vacates-more}
 use Rattle.core_queues.proofs.seats.vacate.Goals as goal
 

@@ -1,5 +1,5 @@
 -- The key is that of the place, and the keys before it have no seat any more.
-use Rattle.core_queues.proofs.Names.{get, key_at, Vacates, ◌≡◌}
+use Rattle.core_queues.proofs.Words.{get, key_at, Vacates, ◌≡◌}
 use Rattle.core_queues.proofs.seats.vacate.Given as goal
 
 abbrev pub invariant-loop-index : goal.invariant-loop-index

@@ -1,4 +1,4 @@
-use Rattle.core_queues.proofs.Names.{arith, false, inl, inr, refl, ℕ, ◌<◌, ◌≡◌}
+use Rattle.core_queues.proofs.Words.{arith, false, inl, inr, refl, ℕ, ◌<◌, ◌≡◌}
 use Rattle.core_queues.proofs.Marked.{still_filled}
 use Rattle.core_queues.proofs.waiting.move_head.Goals as goal
 

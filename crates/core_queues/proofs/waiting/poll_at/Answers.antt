@@ -1,4 +1,4 @@
-use Rattle.core_queues.proofs.Names.{ap, arith, cond, ContainsKey-within, is_some, None, Option, refl, Some, subst, sum_by-set, sym, Updates-with_value, Waiting, ℕ}
+use Rattle.core_queues.proofs.Words.{ap, arith, cond, ContainsKey-within, is_some, None, Option, refl, Some, subst, sum_by-set, sym, Updates-with_value, Waiting, ℕ}
 use Rattle.core_queues.proofs.waiting.poll_at.Goals as goal
 
 pub returns-clause-polls : goal.returns-clause-polls

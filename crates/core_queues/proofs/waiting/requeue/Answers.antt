@@ -1,4 +1,4 @@
-use Rattle.core_queues.proofs.Names.{inl, inr, refl}
+use Rattle.core_queues.proofs.Words.{inl, inr, refl}
 use Rattle.core_queues.proofs.Marked.{still_filled}
 use Rattle.core_queues.proofs.waiting.requeue.Goals as goal
 

@@ -1,4 +1,4 @@
-use Rattle.core_queues.proofs.Names.{ap, arith, cond, ContainsKey-within, is_some, None, Option, refl, Some, sum_by-set, true, Updates-with_value, Waiting, ℕ}
+use Rattle.core_queues.proofs.Words.{ap, arith, cond, ContainsKey-within, is_some, None, Option, refl, Some, sum_by-set, true, Updates-with_value, Waiting, ℕ}
 use Rattle.core_queues.proofs.waiting.start.Goals as goal
 
 pub returns : goal.returns

@@ -1,4 +1,4 @@
-use Rattle.core_queues.proofs.Names.{ap, arith, Queue, queues_alone, sym}
+use Rattle.core_queues.proofs.Words.{ap, arith, Queue, queues_alone, sym}
 use Rattle.core_queues.proofs.Spots.{queue_read}
 use Rattle.core_queues.proofs.Views.{exists-view, length-waiting_of}
 use Rattle.core_queues.proofs.queues.Queues.count.Goals as goal

@@ -1,4 +1,4 @@
-use Rattle.core_queues.proofs.Names.{ap, arith, get, Line, Queue, queues_alone, Some, subst, sym, ℕ, ◌<◌, ◌≡◌}
+use Rattle.core_queues.proofs.Words.{ap, arith, get, Line, Queue, queues_alone, Some, subst, sym, ℕ, ◌<◌, ◌≡◌}
 use Rattle.core_queues.proofs.Fronts.{head_shown}
 use Rattle.core_queues.proofs.Spots.{waits, queue_read}
 use Rattle.core_queues.proofs.Views.{exists-view, head_filled}

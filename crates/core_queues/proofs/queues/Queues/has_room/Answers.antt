@@ -1,4 +1,4 @@
-use Rattle.core_queues.proofs.Names.{arith, lt-ltb, ltb-true}
+use Rattle.core_queues.proofs.Words.{arith, lt-ltb, ltb-true}
 use Rattle.core_queues.proofs.Views.{IsWithinLimits-view, held_count-view}
 use Rattle.core_queues.proofs.queues.Queues.has_room.Goals as goal
 

@@ -1,4 +1,4 @@
-use Rattle.core_queues.proofs.Names.{ap, arith, eq-eqb, eqb-true, length, nil_from_length, Queue, queues_alone, sym, ◌∙◌}
+use Rattle.core_queues.proofs.Words.{ap, arith, eq-eqb, eqb-true, length, nil_from_length, Queue, queues_alone, sym, ◌∙◌}
 use Rattle.core_queues.specs.Queues.{waiting_of}
 use Rattle.core_queues.proofs.Spots.{queue_read}
 use Rattle.core_queues.proofs.Views.{alone, exists-view, length-waiting_of}

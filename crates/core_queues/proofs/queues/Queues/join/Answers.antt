@@ -1,4 +1,4 @@
-use Rattle.core_queues.proofs.Names.{ap, Appends, arith, HasOwnSlips, length-set, Queue, queues_alone, refl, subst, sym, Waiting}
+use Rattle.core_queues.proofs.Words.{ap, Appends, arith, HasOwnSlips, length-set, Queue, queues_alone, refl, subst, sym, Waiting}
 use Rattle.core_queues.proofs.Joins.{IsKept-joined, ChangesLine-joined, held_count-joined, Writes-joined}
 use Rattle.core_queues.proofs.Spots.{waits, queue_read}
 use Rattle.core_queues.proofs.Views.{exists-view, fits-view, tail_filled, count-le-len, IsWithinLimits-view}

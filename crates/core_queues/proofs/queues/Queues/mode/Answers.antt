@@ -1,4 +1,4 @@
-use Rattle.core_queues.proofs.Names.{ap, arith, Queue, queues_alone, sym, ◌∙◌}
+use Rattle.core_queues.proofs.Words.{ap, arith, Queue, queues_alone, sym, ◌∙◌}
 use Rattle.core_queues.proofs.Spots.{queue_read}
 use Rattle.core_queues.proofs.Views.{exists-view, mode_of-view}
 use Rattle.core_queues.proofs.queues.Queues.mode.Goals as goal

@@ -1,4 +1,4 @@
-use Rattle.core_queues.proofs.Names.{ap, arith, no_seat, None, Queue, replicate, ◌∙◌}
+use Rattle.core_queues.proofs.Words.{ap, arith, no_seat, None, Queue, replicate, ◌∙◌}
 use Rattle.core_queues.proofs.Changes.{IsKept-opened}
 use Rattle.core_queues.proofs.OwnSlips.{HasOwnSlips-one}
 use Rattle.core_queues.proofs.Rests.{AreAtRest-opened}

@@ -1,4 +1,4 @@
-use Rattle.core_queues.proofs.Names.{ap, Appends, AreFound, arith, false, HasOwnSlips, length, length-set, Queue, queues_alone, refl, set, shown, Some, subst, sym, true, Waiting, ◌<◌, ◌≡◌}
+use Rattle.core_queues.proofs.Words.{ap, Appends, AreFound, arith, false, HasOwnSlips, length, length-set, Queue, queues_alone, refl, set, shown, Some, subst, sym, true, Waiting, ◌<◌, ◌≡◌}
 use Rattle.core_queues.proofs.Joins.{IsKept-joined, ChangesParks-joined, held_count-joined, Writes-joined}
 use Rattle.core_queues.proofs.Spots.{parks, placed, queue_read}
 use Rattle.core_queues.proofs.Views.{line_says, exists-view, fits-view, tail_filled, count-le-len, IsWithinLimits-view}

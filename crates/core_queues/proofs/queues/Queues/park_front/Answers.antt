@@ -1,4 +1,4 @@
-use Rattle.core_queues.proofs.Names.{ap, arith, false, get, HasOwnSlips, length-set, Line, MovesHead, Queue, queues_alone, QueuesView, Requeues, subst, sym, Waiting, waiting_of, [], ◌<◌, ◌∙◌, ◌≡◌}
+use Rattle.core_queues.proofs.Words.{ap, arith, false, get, HasOwnSlips, length-set, Line, MovesHead, Queue, queues_alone, QueuesView, Requeues, subst, sym, Waiting, waiting_of, [], ◌<◌, ◌∙◌, ◌≡◌}
 use Rattle.core_queues.proofs.Fronts.{some_waiting}
 use Rattle.core_queues.proofs.Finds.{AreFound-requeued, AreFound-moved}
 use Rattle.core_queues.proofs.Names.{key_within}

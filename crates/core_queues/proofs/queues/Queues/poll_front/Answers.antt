@@ -1,4 +1,4 @@
-use Rattle.core_queues.proofs.Names.{ap, arith, get, IfSome, IsFrontReady, IsReady, Line, Queue, queues_alone, refl, Renews, subst, sym}
+use Rattle.core_queues.proofs.Words.{ap, arith, get, IfSome, IsFrontReady, IsReady, Line, Queue, queues_alone, refl, Renews, subst, sym}
 use Rattle.core_queues.specs.Queues.{QueuesView, waiting_of}
 use Rattle.core_queues.proofs.Fronts.{some_ready, some_waiting, head_ready, Rewrites-job, front_renewed, front_rests}
 use Rattle.core_queues.proofs.Renewals.{IsKept-renewed}

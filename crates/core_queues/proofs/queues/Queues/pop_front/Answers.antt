@@ -1,4 +1,4 @@
-use Rattle.core_queues.proofs.Names.{ap, AreFound, arith, ChangesLine, drop, HasOwnSlips, is_some, length-set, Line, None, Queue, queues_alone, refl, set, subst, sym, ℕ, ◌-◌, ◌<◌, ◌≡◌}
+use Rattle.core_queues.proofs.Words.{ap, AreFound, arith, ChangesLine, drop, HasOwnSlips, is_some, length-set, Line, None, Queue, queues_alone, refl, set, subst, sym, ℕ, ◌-◌, ◌<◌, ◌≡◌}
 use Rattle.core_queues.proofs.Leaves.{Leaves, IsKept-left, waiting_of-left, ChangesLine-left, held_count-left, Writes-left}
 use Rattle.core_queues.proofs.Spots.{waits, placed, queue_read}
 use Rattle.core_queues.proofs.Finds.{AreFound-left}

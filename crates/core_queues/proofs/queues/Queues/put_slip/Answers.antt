@@ -1,4 +1,4 @@
-use Rattle.core_queues.proofs.Names.{ap, arith, queues_alone, Some, sym, ◌∙◌}
+use Rattle.core_queues.proofs.Words.{ap, arith, queues_alone, Some, sym, ◌∙◌}
 use Rattle.core_queues.proofs.Views.{exists-view}
 use Rattle.core_queues.proofs.OwnSlips.{HasOwnSlips-set, linked_view-set}
 use Rattle.core_queues.proofs.queues.Queues.put_slip.Goals as goal

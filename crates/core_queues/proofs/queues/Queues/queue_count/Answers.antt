@@ -1,4 +1,4 @@
-use Rattle.core_queues.proofs.Names.{arith}
+use Rattle.core_queues.proofs.Words.{arith}
 use Rattle.core_queues.proofs.Views.{IsWithinLimits-view, queue_count-view}
 use Rattle.core_queues.proofs.queues.Queues.queue_count.Goals as goal
 

@@ -1,4 +1,4 @@
-use Rattle.core_queues.proofs.Names.{ap, arith, get, HasOwnSlips, length-set, Line, Queue, queues_alone, refl, Requeues, subst, sym, Waiting, [], ◌<◌, ◌≡◌}
+use Rattle.core_queues.proofs.Words.{ap, arith, get, HasOwnSlips, length-set, Line, Queue, queues_alone, refl, Requeues, subst, sym, Waiting, [], ◌<◌, ◌≡◌}
 use Rattle.core_queues.specs.Queues.{QueuesView, waiting_of}
 use Rattle.core_queues.proofs.Fronts.{some_waiting}
 use Rattle.core_queues.proofs.Finds.{AreFound-requeued}

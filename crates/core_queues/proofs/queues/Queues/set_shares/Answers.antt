@@ -1,4 +1,4 @@
-use Rattle.core_queues.proofs.Names.{ap, arith, HasOwnSlips, length-set, Queue, queues_alone, refl, subst, sym}
+use Rattle.core_queues.proofs.Words.{ap, arith, HasOwnSlips, length-set, Queue, queues_alone, refl, subst, sym}
 use Rattle.core_queues.proofs.Changes.{lines-weighed, says-weighed, IsKept-weighed, ChangesShares-weighed}
 use Rattle.core_queues.proofs.Rests.{AreAtRest-same}
 use Rattle.core_queues.proofs.Parked.{SameParks-lines}

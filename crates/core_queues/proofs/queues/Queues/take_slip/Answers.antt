@@ -1,4 +1,4 @@
-use Rattle.core_queues.proofs.Names.{ap, arith, has_slip, is_some, length, map, None, queues_alone, SlippedView, sym, ◌<◌, ◌∙◌}
+use Rattle.core_queues.proofs.Words.{ap, arith, has_slip, is_some, length, map, None, queues_alone, SlippedView, sym, ◌<◌, ◌∙◌}
 use Rattle.core_queues.proofs.Views.{exists-view}
 use Rattle.core_queues.proofs.OwnSlips.{HasOwnSlips-set, has_slip-at, own-at, linked_view-set, out-set}
 use Rattle.core_queues.proofs.queues.Queues.take_slip.Goals as goal

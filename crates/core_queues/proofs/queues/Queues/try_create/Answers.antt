@@ -1,4 +1,4 @@
-use Rattle.core_queues.proofs.Names.{AddsQueue, ap, arith, HasOwnSlips, length, length_push, Queue, refl, Some, subst, sym, [], ◌++◌, ◌∙◌, ◌∷◌}
+use Rattle.core_queues.proofs.Words.{AddsQueue, ap, arith, HasOwnSlips, length, length_push, Queue, refl, Some, subst, sym, [], ◌++◌, ◌∙◌, ◌∷◌}
 use Rattle.core_queues.proofs.Views.{alone, IsWithinLimits-view, queue_count-view}
 use Rattle.core_queues.proofs.Changes.{IsKept-created, AddsQueue-created, lines-created, says-created}
 use Rattle.core_queues.proofs.Rests.{AreAtRest-same}

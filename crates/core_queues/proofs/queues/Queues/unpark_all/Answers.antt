@@ -1,4 +1,4 @@
-use Rattle.core_queues.proofs.Names.{ap, arith, get, HasOwnSlips, IsChain, JoinsLines, key_at, length, length-set, Queue, queues_alone, refl, subst, sym, Vacates, ℕ, ◌<◌}
+use Rattle.core_queues.proofs.Words.{ap, arith, get, HasOwnSlips, IsChain, JoinsLines, key_at, length, length-set, Queue, queues_alone, refl, subst, sym, Vacates, ℕ, ◌<◌}
 use Rattle.core_queues.proofs.Finds.{AreFound-unparked, found_within}
 use Rattle.core_queues.proofs.Spots.{waits, parks, queue_read}
 use Rattle.core_queues.proofs.Unparks.{unparked_queues, both-le-len, IsKept-unparked, AreAtRest-unparked, Moves-unparked}
