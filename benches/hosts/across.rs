@@ -14,7 +14,7 @@ const JOBS: u64 = 100_000;
 const ROUND: u64 = 10_000;
 
 fn round(outstanding: usize) -> Result<(f64, u64), Error> {
-    let (_house, mut cores, outside) = House::<u64>::open(&Config { cores: 2, places: 1024, burst: 64, notes: 1 << 20 })?;
+    let (_house, mut cores, outside) = House::<u64>::open(&Config { cores: 2, places: 1024, burst: 64, notes: 1 << 20, ..Config::default() })?;
     let mut second = cores.pop().expect("there are two");
     let mut first = cores.pop().expect("there are two");
     second.set_round_time(ROUND);
