@@ -103,6 +103,30 @@ fn what_is_left_is_dropped() {
 }
 
 #[test]
+fn a_handle_tells_whether_its_task_has_ended() {
+    let kept = Arc::new(Mutex::new(None));
+    let keeps = Arc::clone(&kept);
+    let run = Executor::builder().run(move |_| {
+        let keeps = Arc::clone(&keeps);
+        async move {
+            let ends = spawn_local(Queue::FIRST, async { 42 });
+            let panics = spawn_local(Queue::FIRST, async { panic!("it ends alone") });
+            let waits = spawn_local(Queue::FIRST, std::future::pending::<()>());
+            assert!(!ends.is_finished() && !panics.is_finished());
+            for _ in 0..3 {
+                yield_now().await;
+            }
+            assert!(ends.is_finished() && panics.is_finished() && !waits.is_finished());
+            assert!(ends.await.unwrap() == 42 && panics.await.unwrap_err().is_panic());
+            *keeps.lock().unwrap() = Some(waits);
+        }
+    });
+    run.unwrap();
+    // It was dropped as its core ended.
+    assert!(kept.lock().unwrap().take().unwrap().is_finished());
+}
+
+#[test]
 fn queues_have_time_by_their_shares() {
     let report = Executor::builder()
         .queue("first", 1000)
