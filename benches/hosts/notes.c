@@ -1,8 +1,8 @@
 /*
  * Times what becomes of notes, and calls on them, through hosts/c/fairexec.h: notes [ROUNDS]. Each line has the middle of so many rounds (5):
- *   - nanoseconds a note of a core whose one queue has four jobs that yield, three notes a turn: kept, forgotten, or passed on as text. What is
- *     not kept goes each 1,300 turns, of a journal of 2^12 notes;
- *   - nanoseconds of a copy of some notes, and of forgetting many;
+ *   - nanoseconds a note of a core whose one queue has four jobs that yield, three notes a turn: kept, forgotten, or passed on as text or in bytes.
+ *     What is not kept goes each 1,300 turns, of a journal of 2^12 notes;
+ *   - nanoseconds and bytes of a copy of some notes, as text and in bytes, and nanoseconds of forgetting many;
  *   - nanoseconds of a turn by fx_seat_settle and fx_seat_next, and by fx_seat_step.
  */
 #define _POSIX_C_SOURCE 200809L
@@ -13,7 +13,7 @@
 #include <time.h>
 
 enum { TURNS = 650000, EACH = 1300, JOBS = 4, MOST_ROUNDS = 99, BYTES = 1 << 20 };
-enum what { KEEP, FORGET, TEXT };
+enum what { KEEP, FORGET, TEXT, IN_BYTES };
 
 static fx_house house;
 static fx_seat core, outside;
@@ -79,13 +79,17 @@ static void turn(void) {
 
 static double note(enum what becomes) {
     for (int round = 0; round < rounds; round++) {
-        uint64_t count;
+        uint64_t count, copied;
         begin(becomes == KEEP ? 3 * TURNS + 4 : 1 << 12);
         double began = now();
         for (uint32_t each = 1; each <= TURNS; each++) {
             turn();
             if (becomes == FORGET && each % EACH == 0) must(fx_seat_forget(&core, &count), FX_OK);
             if (becomes == TEXT && each % EACH == 0) must(fx_seat_pass_on(&core, bytes, BYTES, &count), FX_OK);
+            if (becomes == IN_BYTES && each % EACH == 0) {
+                must(fx_seat_copy_bytes(&core, 3 * each, 0, UINT64_MAX, bytes, BYTES, &count, &copied), FX_OK);
+                must(fx_seat_forget(&core, &count), FX_OK);
+            }
         }
         found[round] = (now() - began) / (3 * TURNS);
         end();
@@ -107,13 +111,14 @@ static double forgetting(uint32_t turns) {
     return middle();
 }
 
-static double copying(uint64_t notes) {
-    uint64_t count, copied;
+/* The bytes of it are written, too. */
+static double copying(uint64_t notes, int in_bytes, uint64_t *count) {
+    uint64_t copied;
     begin(3 * 4000 + 4);
     for (uint32_t each = 0; each < 4000; each++) turn();
     for (int round = 0; round < rounds; round++) {
         double began = now();
-        must(fx_seat_copy(&core, 999, notes, bytes, BYTES, &count, &copied), FX_OK);
+        must(in_bytes ? fx_seat_copy_bytes(&core, 999, 999, notes, bytes, BYTES, count, &copied) : fx_seat_copy(&core, 999, notes, bytes, BYTES, count, &copied), FX_OK);
         found[round] = now() - began;
         if (copied != notes) exit(1);
     }
@@ -145,7 +150,13 @@ int main(int count, char **words) {
     printf("a note that is kept      %8.1f\n", note(KEEP));
     printf("a note that is forgotten %8.1f\n", note(FORGET));
     printf("a note that goes as text %8.1f\n", note(TEXT));
-    for (uint64_t notes = 128; notes <= 4096; notes *= 2) printf("a copy of %4u notes %13.0f\n", (unsigned)notes, copying(notes));
+    printf("a note that goes in bytes %7.1f\n", note(IN_BYTES));
+    for (int in_bytes = 0; in_bytes <= 1; in_bytes++)
+        for (uint64_t notes = 128; notes <= 4096; notes *= 2) {
+            uint64_t size = 0;
+            double took = copying(notes, in_bytes, &size);
+            printf("a copy of %4u notes %s %10.0f, of %6u bytes\n", (unsigned)notes, in_bytes ? "in bytes" : "as text ", took, (unsigned)size);
+        }
     for (uint32_t turns = 1 << 10; turns <= 1 << 20; turns *= 32) printf("forgetting %7u notes %10.0f\n", 3 * turns, forgetting(turns));
     printf("settle and next %17.1f\n", going_on(0));
     printf("step %28.1f\n", going_on(1));

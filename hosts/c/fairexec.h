@@ -22,15 +22,15 @@
  *
  * Null: a call with a null among its pointers is answered FX_NULL before any other code, and the library isn't called. fairexec_null.h, which
  * stands beside this header, tests each pointer that the compiler doesn't know not to be null. A host that defines FX_NO_NULL_CHECKS before it
- * includes this header calls the library itself, which tests none. fx_house_text, fx_seat_pass_on and fx_seat_copy take no null for no room either.
+ * includes this header calls the library itself, which tests none. fx_house_text, fx_seat_pass_on and the two copies take no null for no room either.
  *
  * Threads: at most one call at a time runs on a handle. A handle may go to another thread between two calls. Between them stands a lock, the
  * start or the join of a thread, or a sequentially consistent atomic. Calls on different handles need no order, those on the seats of one
  * house neither. No call blocks, calls the host back, or knows a clock. No call may be made from a signal handler.
  *
  * Memory: of the calls on one core fx_open and fx_create alone ask for memory, by malloc, and fx_free gives it back, by free. Of those on a
- * house fx_house_open, fx_house_take, fx_house_audit and fx_house_text do, fx_seat_deliver where an order makes a queue, and fx_seat_pass_on and
- * fx_seat_copy, which give it back before they answer; fx_house_end, fx_house_free and fx_seat_free give back what the others took. The library is
+ * house fx_house_open, fx_house_take, fx_house_audit and fx_house_text do, fx_seat_deliver where an order makes a queue, and fx_seat_pass_on,
+ * fx_seat_copy and fx_seat_copy_bytes, which give it back before they answer; fx_house_end, fx_house_free and fx_seat_free give back what the others took. The library is
  * for x86-64-v2.
  *
  * What no call can test is the host's duty, beside the threads' order above:
@@ -104,7 +104,7 @@ enum fx_code {
     FX_SHUT = 27,         /* the gate was shut before */
     FX_NOT_DRAINED = 28,  /* the core isn't drained, or a job of it runs, or a turn of it is open */
     FX_MIXED = 29,        /* the journals can't be those of one house, and have no text */
-    FX_SHORT = 30,        /* the text has more bytes than there is room for */
+    FX_SHORT = 30,        /* the text or the part has more bytes than there is room for */
     FX_PASSED_ON = 31,    /* notes were passed on or forgotten: the house can't judge journals that lack them */
     FX_NULL = 32          /* a pointer is null. The test of this header tells it, and no call of the library */
 };
@@ -498,6 +498,17 @@ uint32_t fx_seat_notes(fx_seat *seat, uint64_t *kept, uint64_t *free_notes) FX_N
 uint32_t fx_seat_copy(fx_seat *seat, uint64_t from, uint64_t most, uint8_t *bytes, size_t room, uint64_t *count, uint64_t *notes) FX_NOT_NULL;
 
 /*
+ * Copies the same notes as a part in bytes, in place of their text: its head, which says the actor, how many of its notes came before, how many are
+ * in the part and how many bytes these have; the notes, each of 2 to 27 bytes; and two sums, by which damage is found. `before` is how many notes of
+ * the actor came before the one at `from`: those that it forgot or passed on, and `from`. The host counts them, and an audit tests that none is
+ * missing. Of `most` notes a part has at most 45 + 27 * most bytes, of none 45.
+ * The bytes `fxh1`, the count of the cores, the burst and the places (1, 1 and 2 bytes, the low one first), and behind them all parts of core 0, those
+ * of each further actor by its number, each actor's in their order, are the whole journals, which `fairexec audit` judges.
+ * FX_EMPTY; FX_NO_MEMORY; FX_SHORT, as fx_seat_copy; FX_OK.
+ */
+uint32_t fx_seat_copy_bytes(fx_seat *seat, uint64_t before, uint64_t from, uint64_t most, uint8_t *bytes, size_t room, uint64_t *count, uint64_t *notes) FX_NOT_NULL;
+
+/*
  * Forgets the notes that the journal of the actor keeps, and writes how many they were. All its notes are free from then on, as behind
  * fx_seat_pass_on. The host may do so at any time. What it didn't copy is nowhere then.
  * FX_EMPTY; FX_OK.
@@ -574,7 +585,7 @@ static inline const char *fx_text(uint32_t code) {
     case FX_SHUT: return "the gate was shut before";
     case FX_NOT_DRAINED: return "the core isn't drained";
     case FX_MIXED: return "the journals can't be those of one house";
-    case FX_SHORT: return "there is too little room for the text";
+    case FX_SHORT: return "there is too little room";
     case FX_PASSED_ON: return "notes were passed on";
     case FX_NULL: return "a pointer is null";
     default: return "no code of this library";

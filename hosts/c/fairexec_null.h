@@ -223,6 +223,12 @@ static inline uint32_t fx_checked_seat_copy(fx_seat *seat, uint64_t from, uint64
 }
 #define fx_seat_copy fx_checked_seat_copy
 
+static inline uint32_t fx_checked_seat_copy_bytes(fx_seat *seat, uint64_t before, uint64_t from, uint64_t most, uint8_t *bytes, size_t room, uint64_t *count, uint64_t *notes) {
+    if (!seat || !bytes || !count || !notes) return FX_NULL;
+    return fx_seat_copy_bytes(seat, before, from, most, bytes, room, count, notes);
+}
+#define fx_seat_copy_bytes fx_checked_seat_copy_bytes
+
 static inline uint32_t fx_checked_seat_forget(fx_seat *seat, uint64_t *count) {
     if (!seat || !count) return FX_NULL;
     return fx_seat_forget(seat, count);

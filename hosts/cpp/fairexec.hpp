@@ -280,6 +280,9 @@ private:
 #endif
 
 namespace linked {
+// How notes are passed on and copied: as text, some 40 bytes and 250 ns a note, or as parts of a journal in bytes, some 16 bytes and a fifth of that time.
+enum class form { text, bytes };
+
 // The notes of an actor of a house: what becomes of them.
 class noted {
     // Notes are counted behind so many calls, and go on once there is a piece of them. A call hands on so many at most, or as many as so much time is
@@ -287,13 +290,14 @@ class noted {
     static constexpr uint32_t calls = 256;
     static constexpr uint64_t piece = 1024, most_notes = 4096, copied = 256;
     static constexpr std::chrono::milliseconds longest_pause{1};
-    // Who takes the notes, and where their text stands until he took it. Of the notes that the journal keeps so many, the oldest, went on already.
+    // Who takes the notes, and where they stand as text or in bytes until he took them. Of the notes that the journal keeps so many, the oldest, went
+    // on already; and so many were kept and are no more.
     std::function<void(const std::string &)> keeper;
     std::string notes;
-    uint64_t passed = 0;
+    uint64_t passed = 0, gone = 0;
     uint32_t left = calls;
 
-    // Puts the text of some notes that didn't go on behind this text, and forgets all once none is left: FX_OK or FX_NO_MEMORY.
+    // Puts some notes that didn't go on behind this text, and forgets all once none is left: FX_OK or FX_NO_MEMORY.
     fx_code put_some(std::string &text) {
         uint64_t some = 0, count = 0;
         fx_code code = copy(passed, copied, text, some);
@@ -327,10 +331,12 @@ class noted {
 
 protected:
     fx_seat seat = FX_NO_SEAT;
+    form how = form::text;
 
     noted() = default;
     noted(noted &&other) noexcept
-        : keeper(std::move(other.keeper)), notes(std::move(other.notes)), passed(other.passed), left(other.left), seat(std::exchange(other.seat, fx_seat FX_NO_SEAT)) {}
+        : keeper(std::move(other.keeper)), notes(std::move(other.notes)), passed(other.passed), gone(other.gone), left(other.left),
+          seat(std::exchange(other.seat, fx_seat FX_NO_SEAT)), how(other.how) {}
     // So many calls may have made as many notes as one did.
     void count_more(uint64_t of) { left -= static_cast<uint32_t>(std::min<uint64_t>(left - 1, of)); }
     // Makes a call, and makes it again if the journal is full and somebody takes its notes.
@@ -341,8 +347,9 @@ protected:
     }
 
 public:
-    // Puts the text of the notes that the journal keeps behind this text: FX_OK, or FX_NO_MEMORY. The journal keeps none of them then, and all its
-    // notes are free. All parts of an actor are its notes in the text of the journals. An exception of the string loses none of them.
+    // Puts the notes that the journal keeps behind this text, in the form of the house: FX_OK, or FX_NO_MEMORY. The journal keeps none of them then,
+    // and all its notes are free. All parts of an actor are its notes in the text of the journals, or in the journals as bytes. An exception of the
+    // string loses none of them.
     [[nodiscard]] fx_code pass_on(std::string &text) {
         do {
             fx_code code = put_some(notes);
@@ -354,30 +361,35 @@ public:
     }
     // How many notes the journal keeps, and how many more it has room for: FX_OK, or FX_EMPTY behind the end.
     [[nodiscard]] fx_code notes_kept(uint64_t &kept, uint64_t &free_notes) noexcept { return static_cast<fx_code>(fx_seat_notes(&seat, &kept, &free_notes)); }
-    // Puts the text of so many notes at most behind this text, from the place `from` on of those that the journal keeps, and writes how many they are:
-    // FX_OK, FX_NO_MEMORY or FX_EMPTY. All of them stay. An exception of the string leaves all as it was.
+    // Puts so many notes at most behind this text, in the form of the house, from the place `from` on of those that the journal keeps, and writes how
+    // many they are: FX_OK, FX_NO_MEMORY or FX_EMPTY. All of them stay. Of no notes there is no part. An exception of the string leaves all as it was.
     [[nodiscard]] fx_code copy(uint64_t from, uint64_t most, std::string &text, uint64_t &notes_copied) {
         std::size_t had = text.size();
-        // A line has at most 128 bytes.
-        uint64_t code, count = 128 * std::min(most, copied) + 1;
+        // A line has at most 128 bytes, and a note in bytes 27, behind a head and before sums of 45.
+        uint64_t code, count = how == form::text ? 128 * std::min(most, copied) + 1 : 27 * std::min(most, copied) + 45;
         do {
             text.resize(had);
             text.resize(had + static_cast<std::size_t>(count));
-            code = fx_seat_copy(&seat, from, most, reinterpret_cast<uint8_t *>(&text[had]), text.size() - had, &count, &notes_copied);
+            auto bytes = reinterpret_cast<uint8_t *>(&text[had]);
+            std::size_t room = text.size() - had;
+            code = how == form::text ? fx_seat_copy(&seat, from, most, bytes, room, &count, &notes_copied)
+                                     : fx_seat_copy_bytes(&seat, gone + from, from, most, bytes, room, &count, &notes_copied);
         } while (code == FX_SHORT);
-        text.resize(code == FX_OK ? had + static_cast<std::size_t>(count) : had);
+        text.resize(code == FX_OK && notes_copied > 0 ? had + static_cast<std::size_t>(count) : had);
         return static_cast<fx_code>(code);
     }
     // Forgets the notes that the journal keeps, and writes how many they were. All its notes are free then, and the house can't judge.
     [[nodiscard]] fx_code forget(uint64_t &count) noexcept {
         passed = 0;
-        return static_cast<fx_code>(fx_seat_forget(&seat, &count));
+        fx_code code = static_cast<fx_code>(fx_seat_forget(&seat, &count));
+        if (code == FX_OK) gone += count;
+        return code;
     }
 
-    // From now on the text of the notes goes to `takes`, before the journal is full: about a thousand at a time, and no call hands on more than 4096
+    // From now on notes go to `takes`, as by `pass_on`, before the journal is full: about a thousand at a time, and no call hands on more than 4096
     // or goes on with it for longer than 1 ms. A journal that has room for fewer than 2048, or is nearly full by now, goes out when it is full. So
     // FX_JOURNAL_FULL comes only if the journal has room for fewer notes than one call may need. What is kept at the end goes out by `pass_on`.
-    // An exception of `takes` leaves that call, which wasn't made; a job that was handed in with it is destroyed. The text is kept: it goes first
+    // An exception of `takes` leaves that call, which wasn't made; a job that was handed in with it is destroyed. What was written is kept: it goes first
     // the next time that notes go to `takes`, or to pass_on.
     void keep_notes_by(std::function<void(const std::string &)> takes) { keeper = std::move(takes); }
 

@@ -96,9 +96,11 @@ template <class Job> class lanes {
     }
 
 public:
+    const form how;
+
     // A lane has one place more than its link, so that the link judges.
-    lanes(uint32_t cores, uint32_t places)
-        : core_count(cores), room_of_lane(places + 1), all(new std::optional<Job>[(cores + 1) * cores * std::size_t{room_of_lane}]), bells(new bell[cores + 1]), number(next_house()) {}
+    lanes(uint32_t cores, uint32_t places, form how)
+        : core_count(cores), room_of_lane(places + 1), all(new std::optional<Job>[(cores + 1) * cores * std::size_t{room_of_lane}]), bells(new bell[cores + 1]), number(next_house()), how(how) {}
     uint32_t cores() const noexcept { return core_count; }
     uint32_t room() const noexcept { return room_of_lane; }
     // Which house it is, of all that this process opens.
@@ -212,6 +214,7 @@ protected:
 
 public:
     actor(fx_house &house, std::shared_ptr<lanes<Job>> lanes) : shared(std::move(lanes)) {
+        how = shared->how;
         to_core.resize(shared->cores());
         for (auto &each : to_core)
             for (uint32_t place = 0; place < shared->room(); place++) each.vacant.push_back(place);

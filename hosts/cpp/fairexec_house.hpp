@@ -14,9 +14,16 @@
 
 namespace fairexec::linked {
 
-// What a house is opened with: see fx_config.
+// What a house is opened with: see fx_config. And how notes are passed on.
 struct config {
     uint32_t cores = 1, places = 64, burst = 1, notes = 1u << 20;
+    form how = form::text;
+
+    // What stands before the parts of all actors if they are passed on in bytes: `fxh1`, the count of the cores, the burst, and the places.
+    std::string head() const {
+        auto byte = [](uint32_t number) { return static_cast<char>(number & 255u); };
+        return {'f', 'x', 'h', '1', byte(cores), byte(burst), byte(places), byte(places >> 8)};
+    }
 };
 
 // What a job may do while it runs.
@@ -237,7 +244,7 @@ template <class Job, class Clock = std::chrono::steady_clock> class house {
         if (code == FX_NO_MEMORY) throw std::bad_alloc();
         if (code == FX_BAD_NUMBER) throw error(code, wrong(with));
         if (code != FX_OK) throw error(code);
-        return std::make_shared<lanes<Job>>(with.cores, with.places);
+        return std::make_shared<lanes<Job>>(with.cores, with.places, with.how);
     }
     // The number of the config that is out of its range.
     static std::string wrong(const config &with) {

@@ -4,6 +4,8 @@ Each call answers what is written, or raises `Refused` with the name of a code.
 """
 from collections import deque
 
+from parts import part_of
+
 MOST_TIME = 2**40 - 1
 FINISH, RETURN = 0, 1
 YIELD, DONE, PARK = 0, 1, 2
@@ -69,6 +71,14 @@ class Actor:
         if wanted > room:
             return "FX_SHORT", [wanted], []
         return "FX_OK", [wanted, len(lines)], lines
+
+    def copy_bytes(self, before, first, most, room):
+        """Some notes as a part in bytes, if there is room for it. What is written, and the bytes as digits."""
+        lines = [line.partition(" ")[2] for line in self.notes[first : first + most]]
+        part = part_of(self.number, before, lines)
+        if len(part) > room:
+            return "FX_SHORT", [len(part)], []
+        return "FX_OK", [len(part), len(lines)], [part.hex()]
 
     def forget(self):
         count = len(self.notes)

@@ -62,6 +62,11 @@ class Caller:
         self.lines = iter(lines)
         return code, written
 
+    def copybytes(self, actor, before, first, most, room):
+        code, written, lines = self.actor(actor).copy_bytes(before, first, most, room)
+        self.lines = iter(lines)
+        return code, written
+
     def forget(self, actor):
         return "FX_OK", self.actor(actor).forget()
 

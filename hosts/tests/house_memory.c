@@ -129,12 +129,15 @@ static void passing(void) {
     for (uint32_t each = 0; each < 100; each++) is("a round", round_of(each), 0);
     is("without memory nothing is told", fx_seat_pass_on(&seats[0], bytes, 0, &whole), FX_NO_MEMORY);
     is("and no piece", fx_seat_copy(&seats[0], 0, 9, bytes, sizeof bytes, &count, &notes), FX_NO_MEMORY);
+    is("nor a part", fx_seat_copy_bytes(&seats[0], 0, 0, 9, bytes, sizeof bytes, &count, &notes), FX_NO_MEMORY);
     for (int seat = 0; seat <= CORES; seat++) {
         before = used;
         left = 100000;
         is("with memory", fx_seat_pass_on(&seats[seat], bytes, 0, &whole), FX_SHORT);
         WITH_LITTLE(fx_seat_copy(&seats[seat], 9, 50, bytes, sizeof bytes, &count, &notes), FX_OK);
         is("a piece is copied", notes, 50);
+        WITH_LITTLE(fx_seat_copy_bytes(&seats[seat], 0, 9, 60, bytes, sizeof bytes, &count, &notes), FX_OK);
+        is("and a part", notes, 60);
         left = 100000;
         WITH_LITTLE(fx_seat_pass_on(&seats[seat], bytes, sizeof bytes, &count), FX_OK);
         is("all of it went on", count == whole && whole > 100, 1);

@@ -252,6 +252,18 @@ static void copies(fx_seat *seat, uint64_t from, uint64_t most, uint32_t notes, 
     is("and their text alone", memcmp(bytes, text, long_) == 0 && bytes[long_] == POISON, 1);
 }
 
+/* A part in bytes of so many notes: its head and its notes are these, and behind them stand their sums. */
+static void copies_bytes(fx_seat *seat, uint64_t before, uint64_t from, uint64_t most, uint32_t notes, const uint8_t *part, size_t long_) {
+    uint8_t bytes[200];
+    uint64_t sums[2] = {0, 0};
+    memset(bytes, POISON, sizeof bytes);
+    IS(fx_seat_copy_bytes(seat, before, from, most, bytes, long_ + 16, &out.count, &out.second), FX_OK);
+    is("a part has its notes", out.count == long_ + 16 && out.second == notes, 1);
+    is("its head and their bytes", memcmp(bytes, part, long_) == 0 && bytes[long_ + 16] == POISON, 1);
+    for (size_t each = 0; each < long_; each++) sums[1] += sums[0] += bytes[each];
+    for (size_t each = 0; each < 16; each++) is("and its sums", bytes[long_ + each], (uint8_t)(sums[each / 8] >> (8 * (each % 8))));
+}
+
 /* Notes are copied piece by piece, or not at all, and forgotten: then all places of the journal are free. */
 static void copying(void) {
     all of = opened(2, 1, 5);
@@ -277,12 +289,24 @@ static void copying(void) {
     REFUSES(&of, fx_seat_copy(core, 0, 2, bytes, 30, &out.count, &out.second), FX_SHORT);
     is("the wanted room is told, and nothing else", out.count == 31 && out.second == 7 && bytes[0] == POISON, 1);
     has_notes(core, 3, 2);
+    /* Three notes: took 2>0#1 q0, pick q0 at 0, start 2>0#1. */
+    copies_bytes(core, 0x0102, 0, 9, 3, (const uint8_t *)"fxp1\0\2\1\0\0\0\0\0\0\3\0\0\0\0\0\0\0\51\0\0\0\0\0\0\0"
+        "\1\2\0\1\0\0\0\0\0\0\0\0" "\11\0\0\0\0\0\0\0\0\0\0\0\0\0\0\0\0\0" "\12\2\0\1\0\0\0\0\0\0\0", 70);
+    copies_bytes(core, UINT64_MAX, 2, UINT64_MAX, 1, (const uint8_t *)"fxp1\0\377\377\377\377\377\377\377\377\1\0\0\0\0\0\0\0\13\0\0\0\0\0\0\0"
+        "\12\2\0\1\0\0\0\0\0\0\0", 40);
+    copies_bytes(core, 3, UINT64_MAX, 9, 0, (const uint8_t *)"fxp1\0\3\0\0\0\0\0\0\0\0\0\0\0\0\0\0\0\0\0\0\0\0\0\0\0", 29);
+    out.second = 7;
+    memset(bytes, POISON, sizeof bytes);
+    REFUSES(&of, fx_seat_copy_bytes(core, 0, 0, 2, bytes, 74, &out.count, &out.second), FX_SHORT);
+    is("the wanted room is told, and nothing else", out.count == 75 && out.second == 7 && bytes[0] == POISON, 1);
+    has_notes(core, 3, 2);
     REFUSES(&of, fx_seat_forget(core, &out.count), FX_OK);
     is("while a job runs three are forgotten", (uint32_t)out.count, 3);
     has_notes(core, 0, 5);
     IS(fx_seat_settle(core, FX_STEP_DONE, 1, 1), FX_DONE);
     copies(core, 0, 9, 1, "0 done 2>0#1 1 = 1\n");
     copies(outside, 0, 9, 1, "2 sent 2>0#1 job q0\n");
+    copies_bytes(outside, 0, 0, 9, 1, (const uint8_t *)"fxp1\2\0\0\0\0\0\0\0\0\1\0\0\0\0\0\0\0\15\0\0\0\0\0\0\0" "\0\2\0\1\0\0\0\0\0\0\0\0\0", 42);
     IS(fx_seat_forget(outside, &out.count), FX_OK);
     is("the outside actor forgets, too", (uint32_t)out.count, 1);
     has_notes(outside, 0, 5);

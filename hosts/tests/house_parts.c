@@ -1,6 +1,7 @@
 /*
- * A house that runs on: house_parts FOLDER TURNS BURST. Its journals have room for few notes, and it makes many more turns than that. A call
- * that finds a journal full is made again once the notes were passed on, whole or in pieces, to the file FOLDER/partN of actor N. Jobs come from the outside actor
+ * A house that runs on: house_parts FOLDER TURNS BURST [bytes]. Its journals have room for few notes, and it makes many more turns than that. A call
+ * that finds a journal full is made again once the notes were passed on, whole or in pieces, to the file FOLDER/partN of actor N: as text, or with
+ * the word `bytes` in bytes, and then FOLDER/head has what stands before the parts. Jobs come from the outside actor
  * and from the other core; some yield, some park and are woken, some come back, and queues are made. At the end each seat passes on what is
  * left, and FOLDER/rest has the text of the house, which is its first two lines and its last one.
  * The last line is 'N passed, M failed', and the status is 0 if nothing failed.
@@ -21,6 +22,7 @@ static fx_name parked[CORES];
 static bool waits[CORES];
 /* Whether the house runs on: jobs are submitted, and park. */
 static bool goes_on = true;
+static bool in_bytes;
 
 static uint32_t below(uint32_t limit) {
     state ^= state << 13;
@@ -29,17 +31,20 @@ static uint32_t below(uint32_t limit) {
     return (uint32_t)((state >> 32) % limit);
 }
 
-/* In pieces of three notes, which are forgotten behind the last. */
-static bool pass_pieces(uint32_t actor) {
-    uint8_t bytes[3 * 128];
+/* In pieces of so many notes, which are forgotten behind the last. In bytes a piece says how many notes of its actor came before. */
+static bool pass_pieces(uint32_t actor, uint64_t most) {
+    static uint64_t gone[CORES + 1];
+    uint8_t bytes[NOTES * 128];
     uint64_t from = 0, count, notes = 1, forgotten = 0;
     while (notes > 0) {
-        if (fx_seat_copy(&seats[actor], from, 3, bytes, sizeof bytes, &count, &notes) != FX_OK) return false;
-        if (fwrite(bytes, 1, (size_t)count, parts[actor]) != count) return false;
+        uint32_t code = in_bytes ? fx_seat_copy_bytes(&seats[actor], gone[actor] + from, from, most, bytes, sizeof bytes, &count, &notes)
+                                 : fx_seat_copy(&seats[actor], from, most, bytes, sizeof bytes, &count, &notes);
+        if (code != FX_OK || fwrite(bytes, 1, (size_t)count, parts[actor]) != count) return false;
         from += notes;
         written += (unsigned long)count;
     }
     times++;
+    gone[actor] += from;
     return fx_seat_forget(&seats[actor], &forgotten) == FX_OK && forgotten == from;
 }
 
@@ -49,7 +54,7 @@ static bool pass_on(uint32_t actor) {
     static size_t room;
     uint64_t count = 0;
     uint32_t code;
-    if (below(2) == 0) return pass_pieces(actor);
+    if (in_bytes || below(2) == 0) return pass_pieces(actor, in_bytes ? 1 + below(NOTES) : 3);
     while ((code = fx_seat_pass_on(&seats[actor], bytes ? bytes : (uint8_t *)&count, room, &count)) == FX_SHORT) {
         room = (size_t)count;
         bytes = realloc(bytes, room);
@@ -175,7 +180,7 @@ static unsigned long drain(void) {
     return wrong + (drained != CORES);
 }
 
-static void end(const char *folder) {
+static void end(const char *folder, uint32_t burst) {
     static uint8_t bytes[1000];
     fx_verdict verdict = {.size = sizeof verdict};
     char path[4096];
@@ -187,7 +192,11 @@ static void end(const char *folder) {
     }
     IS(fx_house_audit(&house, &verdict), FX_PASSED_ON);
     IS(fx_house_text(&house, 0, bytes, sizeof bytes, &count), FX_OK);
-    snprintf(path, sizeof path, "%s/rest", folder);
+    if (in_bytes) {
+        is("all notes went on", count, burst > 1 ? 36 : 28);
+        memcpy(bytes, (const uint8_t[]){'f', 'x', 'h', '1', CORES, (uint8_t)burst, PLACES, 0}, count = 8);
+    }
+    snprintf(path, sizeof path, in_bytes ? "%s/head" : "%s/rest", folder);
     FILE *rest = fopen(path, "w");
     is("the rest is written", rest != NULL && fwrite(bytes, 1, (size_t)count, rest) == count && fclose(rest) == 0, 1);
     IS(fx_house_free(&house), FX_OK);
@@ -196,10 +205,12 @@ static void end(const char *folder) {
 int main(int count, char **words) {
     unsigned long wrong = 0, all;
     fx_name name;
-    uint32_t code = FX_OK;
+    uint32_t code = FX_OK, burst;
     if (count < 4) return 1;
     all = strtoul(words[2], NULL, 10);
-    open((uint32_t)strtoul(words[3], NULL, 10), words[1]);
+    in_bytes = count > 4;
+    burst = (uint32_t)strtoul(words[3], NULL, 10);
+    open(burst, words[1]);
     for (uint32_t core = 0; core < CORES && code == FX_OK; core++) {
         ON(OUTSIDE, code, fx_seat_create(&seats[OUTSIDE], core, 100, &name));
         if (code == FX_OK) ON(OUTSIDE, code, fx_seat_detach(&seats[OUTSIDE], &name));
@@ -208,7 +219,7 @@ int main(int count, char **words) {
     while (turns < all && wrong == 0) wrong += make_round();
     is("all calls of the rounds succeed", wrong, 0);
     is("and those until the end", drain(), 0);
-    end(words[1]);
+    end(words[1], burst);
     printf("%lu turns, and %lu bytes of notes went on in %lu parts\n", turns, written, times);
     printf("%u passed, %u failed\n", passed, failed);
     return failed != 0;

@@ -212,6 +212,12 @@ static void print_text(const uint8_t *bytes, uint64_t count, bool *begins) {
     }
 }
 
+static void print_digits(const uint8_t *bytes, uint64_t count) {
+    printf("|");
+    for (uint64_t each = 0; each < count; each++) printf("%02x", bytes[each]);
+    printf("\n");
+}
+
 /* The notes of an actor go on, to a buffer of any room, or of the room that a call told, or of one byte less. */
 static void pass_on(uint32_t actor) {
     uint64_t count = 0;
@@ -232,7 +238,7 @@ static void pass_on(uint32_t actor) {
     if (code == FX_OK) print_text(text_bytes, count, &begins);
 }
 
-/* Notes of an actor are copied, from any place, to a buffer of any room. Those of a house that passes notes on are forgotten at times. */
+/* Notes of an actor are copied, as text or in bytes, from any place, to a buffer of any room. Those of a house that passes notes on are forgotten at times. */
 static void copy(uint32_t actor) {
     uint64_t kept = 0x5a5a5a5a5a5a5a5a, free_notes = kept, count = kept, notes = kept;
     uint32_t code = fx_seat_notes(at(&seats[actor]), at(&kept), at(&free_notes));
@@ -243,14 +249,19 @@ static void copy(uint32_t actor) {
     size_t room = rarely(3) ? below(400) : 4000, checked = room + 100;
     bool begins = true;
     poison(text_bytes, checked);
-    code = fx_seat_copy(at(&seats[actor]), first, most, at(text_bytes), room, at(&count), at(&notes));
+    bool in_bytes = rarely(2);
+    uint64_t before = in_bytes ? any() >> below(64) : 0;
+    code = in_bytes ? fx_seat_copy_bytes(at(&seats[actor]), before, first, most, at(text_bytes), room, at(&count), at(&notes))
+                    : fx_seat_copy(at(&seats[actor]), first, most, at(text_bytes), room, at(&count), at(&notes));
     size_t from = code == FX_OK ? (size_t)count : 0;
-    PRINT("copy %" PRIu32 " %" PRIu64 " %" PRIu64 " %zu = %" PRIu32 "%s%s%s", actor, first, most, room, code, wrote(text_bytes + from, checked - from, false),
-          wrote(&count, sizeof count, code == FX_OK || code == FX_SHORT), wrote(&notes, sizeof notes, code == FX_OK));
+    if (in_bytes) PRINT("copybytes %" PRIu32 " %" PRIu64, actor, before);
+    else PRINT("copy %" PRIu32, actor);
+    printf(" %" PRIu64 " %" PRIu64 " %zu = %" PRIu32 "%s%s%s", first, most, room, code, wrote(text_bytes + from, checked - from, false),
+           wrote(&count, sizeof count, code == FX_OK || code == FX_SHORT), wrote(&notes, sizeof notes, code == FX_OK));
     if (code == FX_OK || code == FX_SHORT) printf(" %" PRIu64, count);
     if (code == FX_OK) printf(" %" PRIu64, notes);
     printf("\n");
-    if (code == FX_OK) print_text(text_bytes, count, &begins);
+    if (code == FX_OK) in_bytes ? print_digits(text_bytes, count) : print_text(text_bytes, count, &begins);
     if (!passes || !rarely(3)) return;
     count = 0x5a5a5a5a5a5a5a5a;
     code = fx_seat_forget(at(&seats[actor]), at(&count));

@@ -56,7 +56,7 @@ def header_of(text):
 
 # What the caller hands in beside a null: with these numbers and places, and at its stage (nulls.h), a call without a null does something.
 NUMBERS = {"jobs": "4", "shares": "100", "queue": "0", "job": "7", "order": "1", "step": "FX_STEP_YIELD", "spent": "1", "mode": "FX_MODE_RETURN", "from": "0", "room": "sizeof here.bytes",
-           "answer": "1", "sender": "0", "core": "0", "to": "0", "most": "9"}
+           "answer": "1", "before": "0", "sender": "0", "core": "0", "to": "0", "most": "9"}
 PLACES = {"fx_core *": "&here.core", "fx_house *": "&here.house", "fx_seat *": "seat", "const fx_config *": "&here.config", "const fx_name *": "&here.job",
           "fx_core_stats *": "&here.core_stats", "fx_queue_stats *": "&here.queue_stats", "fx_turn *": "&here.turn", "fx_outcome *": "&here.outcome", "fx_name *": "&here.name",
           "fx_verdict *": "&here.verdict", "uint32_t *": "&here.number", "uint64_t *": "&here.count", "uint8_t *": "here.bytes"}

@@ -271,6 +271,43 @@ static void notes_go_on() {
     is("and has nothing left", house.text() == "journal 1\ncores 2 cap 4\nend\n", 1);
 }
 
+// In bytes each part says how many notes of its actor came before, also behind notes that were forgotten.
+static void notes_go_on_in_bytes() {
+    linked::config with = {1, 4, 1, 1u << 12, linked::form::bytes};
+    linked::house<counted> house(with);
+    auto &core = house.cores[0];
+    std::string part, none;
+    uint64_t count = 0, gone = 0, found = 0, parts = 0;
+    auto runs = [&](unsigned long jobs) {
+        for (unsigned long number = 0; number < jobs; number++) {
+            auto sent = house.outside.submit(0, 0, counted(number));
+            while (core.round(twice) == FX_OK) {}
+            is("a job is done", house.outside.wait_for(*sent.ticket).answer, 2 * number);
+        }
+    };
+    is("the head has the numbers", with.head() == std::string("fxh1\1\1\4\0", 8), 1);
+    runs(3);
+    is("of no notes there is no part", core.copy(12, 9, none, count) == FX_OK && count == 0 && none.empty(), 1);
+    is("notes are forgotten", core.forget(gone) == FX_OK && gone == 12, 1);
+    core.keep_notes_by([&](const std::string &more) { part += more; });
+    runs(1000);
+    is("the rest goes out", core.pass_on(part), FX_OK);
+    // Of each part: the actor, how many notes came before, how many it has, and how many bytes these have.
+    auto number = [&](std::size_t from) {
+        uint64_t made = 0;
+        for (std::size_t each = 8; each > 0; each--) made = made << 8 | static_cast<uint8_t>(part[from + each - 1]);
+        return made;
+    };
+    std::size_t at = 0;
+    for (bool right = true; right && at < part.size(); parts++) {
+        right = part.compare(at, 5, std::string("fxp1\0", 5)) == 0 && number(at + 5) == gone + found && number(at + 13) > 0;
+        is("a part goes on from the one before", right, 1);
+        found += number(at + 13);
+        at += 45 + static_cast<std::size_t>(number(at + 21));
+    }
+    is("no note is missing", found == 4000 && at == part.size() && parts >= 4, 1);
+}
+
 // Notes are counted, copied whole and in pieces, and forgotten.
 static void notes_are_forgotten() {
     linked::house<counted> house({1, 2, 1, 40});
@@ -476,6 +513,7 @@ int main() {
     one_core();
     what_comes_back();
     notes_go_on();
+    notes_go_on_in_bytes();
     notes_are_forgotten();
     no_call_hands_on_many();
     no_note_is_lost();

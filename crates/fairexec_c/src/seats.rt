@@ -10,6 +10,7 @@ ghost use Rattle.host_calls.specs.Stats.{SeatTells, SeatTellsQueue};
 ghost use Rattle.host_calls.specs.Submissions.{CollectsTold, ShowsTold};
 ghost use Rattle.host_calls.specs.Tickets.{DetachesTold, RedeemsTold};
 ghost use Rattle.host_calls.specs.Turns.{NextsTold, SettlesTold, StepsTold, step_of};
+ghost use Rattle.host_text.specs.declared.part.Form.TheVariants as form;
 ghost use Rattle.fairexec_c.specs.Handles.{OnCore};
 
 use crate::seat::{Seat, put, take};
@@ -18,6 +19,7 @@ use host_calls::names::Name;
 use host_calls::outcomes::OutcomeTold;
 use host_calls::turns::TurnTold;
 use host_calls::{Code, number};
+use host_text::Form;
 use std::alloc::Global;
 
 /// Tells which job to run now.
@@ -229,13 +231,38 @@ pub extern "C" fn fx_seat_copy(
     notes: &mut u64,
 ) -> u32
     ensures seat { OnCore seat.old.value seat.new.value result (λ old told new.
-        (new ≡ old) × CopiesTold old from most bytes.old count.old notes.old told bytes.new count.new notes.new) }
+        (new ≡ old) × CopiesTold old form.Text from most bytes.old count.old notes.old told bytes.new count.new notes.new) }
     ensures empty { seat.old.value ≡ None → (bytes.new ≡ bytes.old) × (count.new ≡ count.old) × (notes.new ≡ notes.old) }
 {
     let Some(member) = take(alloc, seat) else {
         return number(Code::Empty);
     };
-    let code = member.copy(alloc, from, most, bytes, count, notes);
+    let code = member.copy(alloc, Form::Text, from, most, bytes, count, notes);
+    put(seat, member);
+    number(code)
+}
+
+/// Copies some of the notes that the journal keeps as a part in bytes, before which came so many notes of the actor, and tells how many bytes it has,
+/// and of how many notes it is.
+#[unsafe(no_mangle)]
+pub extern "C" fn fx_seat_copy_bytes(
+    alloc: Global,
+    seat: &mut Seat,
+    before: u64,
+    from: u64,
+    most: u64,
+    bytes: &mut [u8],
+    count: &mut u64,
+    notes: &mut u64,
+) -> u32
+    ensures seat { OnCore seat.old.value seat.new.value result (λ old told new.
+        (new ≡ old) × CopiesTold old (form.Bytes before) from most bytes.old count.old notes.old told bytes.new count.new notes.new) }
+    ensures empty { seat.old.value ≡ None → (bytes.new ≡ bytes.old) × (count.new ≡ count.old) × (notes.new ≡ notes.old) }
+{
+    let Some(member) = take(alloc, seat) else {
+        return number(Code::Empty);
+    };
+    let code = member.copy(alloc, Form::Bytes(before), from, most, bytes, count, notes);
     put(seat, member);
     number(code)
 }

@@ -2,6 +2,7 @@
 use Rattle.std.proofs.Common.{inl, inr, subst}
 use Rattle.std.specs.Prelude.{ℕ, List, Ok, Err}
 use Rattle.host_core.specs.Hosted.{HostedView}
+use Rattle.host_text.specs.declared.part.Form.{Form}
 use Rattle.host_text.specs.declared.part.PassError.TheVariants.{Short, Memory}
 use Rattle.host_calls.specs.declared.code.Code.TheVariants as code
 use Rattle.host_calls.specs.declared.member.Member.{Member}
@@ -22,16 +23,16 @@ house_forgets house new (inl told) = cc told.1
 house_forgets house new (inr told) = told.0
 
 -- a house copies notes
-pub house_copies : (house : KeptView) (before after : List ℕ) → CopiesTold (member.House house) 0 1 before 0 0 code.Ok after 9 1 → ⊥
-house_copies house before after (inl told) = cc told.1
-house_copies house before after (inr told) = told.0
+pub house_copies : (house : KeptView) (form : Form) (before after : List ℕ) → CopiesTold (member.House house) form 0 1 before 0 0 code.Ok after 9 1 → ⊥
+house_copies house form before after (inl told) = cc told.1
+house_copies house form before after (inr told) = told.0
 
 -- a piece that didn't fit is told as copied
-pub short_piece_is_noted : (old : HostedView) (before after : List ℕ) → CopiesTold (member.Core old) 0 1 before 0 0 code.Short after 9 1 → ⊥
-short_piece_is_noted old before after (inl told) = told.0 tt
-short_piece_is_noted old before after (inr (actor, (Ok piece, copies, is, count, notes))) = cc is
-short_piece_is_noted old before after (inr (actor, (Err (Short wanted), copies, is, count, notes))) = cc notes
-short_piece_is_noted old before after (inr (actor, (Err Memory, copies, is, count, notes))) = cc is
+pub short_piece_is_noted : (old : HostedView) (form : Form) (before after : List ℕ) → CopiesTold (member.Core old) form 0 1 before 0 0 code.Short after 9 1 → ⊥
+short_piece_is_noted old form before after (inl told) = told.0 tt
+short_piece_is_noted old form before after (inr (actor, (Ok piece, copies, is, count, notes))) = cc is
+short_piece_is_noted old form before after (inr (actor, (Err (Short wanted), copies, is, count, notes))) = cc notes
+short_piece_is_noted old form before after (inr (actor, (Err Memory, copies, is, count, notes))) = cc is
 
 -- a step goes on behind a run that wasn't settled
 pub step_goes_on : (old new : HostedView) (before after : TurnTold) → StepsTold old (step_of 3 0) 10 before code.Start after new → ⊥

@@ -2,6 +2,7 @@
 use Rattle.std.specs.Prelude.{◌≡◌, ℕ, List, Result, Ok, Err}
 use Rattle.host_core.specs.Passing as core
 use Rattle.host_house.specs.Passing as outside
+use Rattle.host_text.specs.declared.part.Form.{Form}
 use Rattle.host_text.specs.declared.part.PassError.{PassError}
 use Rattle.host_text.specs.declared.part.PassError.TheVariants.{Short, Memory}
 use Rattle.host_text.specs.declared.part.Piece.{Piece}
@@ -26,11 +27,11 @@ abbrev pub NotesTold : Member → ℕ → ℕ → Code → ℕ → ℕ → Type 
 NotesTold actor kept free told kept_after free_after =
     OnActor actor ((kept_after ≡ kept) × (free_after ≡ free)) told actor ((told ≡ code.Ok) × HasCounts actor kept_after free_after)
 
--- a piece of the text of the notes that the journal of an actor keeps is copied, or nothing is
-abbrev pub CopiesOn : Member → ℕ → ℕ → List ℕ → Result Piece PassError → List ℕ → Type 0
-CopiesOn (member.Core view) from most before answer after = CopiesPiece view.recorded.core.core from most view.recorded.journal before answer after
-CopiesOn (member.Outside view) from most before answer after = CopiesPiece view.desk.cores from most view.desk.journal before answer after
-CopiesOn other from most before answer after = (IsActor other → ⊥) × (after ≡ before)
+-- a piece of the notes that the journal of an actor keeps is copied in this form, or nothing is
+abbrev pub CopiesOn : Member → Form → ℕ → ℕ → List ℕ → Result Piece PassError → List ℕ → Type 0
+CopiesOn (member.Core view) form from most before answer after = CopiesPiece view.recorded.core.core form from most view.recorded.journal before answer after
+CopiesOn (member.Outside view) form from most before answer after = CopiesPiece view.desk.cores form from most view.desk.journal before answer after
+CopiesOn other form from most before answer after = (IsActor other → ⊥) × (after ≡ before)
 
 -- how many bytes the piece has, also if there is room for fewer; else what stood there stays
 abbrev pub count_copied : Result Piece PassError → ℕ → ℕ
@@ -44,10 +45,10 @@ notes_copied (Ok piece) before = piece.notes
 notes_copied (Err error) before = before
 
 -- the piece is copied and told, and nothing else changes
-abbrev pub CopiesTold : Member → ℕ → ℕ → List ℕ → ℕ → ℕ → Code → List ℕ → ℕ → ℕ → Type 0
-CopiesTold actor from most before count notes told after counted noted =
+abbrev pub CopiesTold : Member → Form → ℕ → ℕ → List ℕ → ℕ → ℕ → Code → List ℕ → ℕ → ℕ → Type 0
+CopiesTold actor form from most before count notes told after counted noted =
     OnActor actor ((after ≡ before) × (counted ≡ count) × (noted ≡ notes)) told actor
-    ((answer : Result Piece PassError) × CopiesOn actor from most before answer after × (told ≡ code_of_passed answer) × (counted ≡ count_copied answer count) × (noted ≡ notes_copied answer notes))
+    ((answer : Result Piece PassError) × CopiesOn actor form from most before answer after × (told ≡ code_of_passed answer) × (counted ≡ count_copied answer count) × (noted ≡ notes_copied answer notes))
 
 -- an actor forgets the notes that its journal keeps, which are so many
 abbrev pub ForgetsOn : Member → ℕ → Member → Type 0

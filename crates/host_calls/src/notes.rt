@@ -9,7 +9,7 @@ ghost use Rattle.host_calls.specs.Passing.{code_of_passed};
 use crate::code::Code;
 use crate::member::Member;
 use base_words::ActorNo;
-use host_text::{PassError, Piece, copy_piece};
+use host_text::{Form, PassError, Piece, copy_piece};
 use note_journal::RunningJournal;
 use std::alloc::Global;
 
@@ -25,43 +25,46 @@ impl Member {
         }
     }
 
-    /// Copies the text of so many notes at most of those that the journal of an actor keeps, from this place on, and tells how many bytes it has
-    /// and of how many notes it is. If there is room for fewer bytes, it tells how many are wanted. Nothing else changes.
+    /// Copies so many notes at most of those that the journal of an actor keeps, from this place on, in this form, and tells how many bytes that
+    /// has and of how many notes it is. If there is room for fewer bytes, it tells how many are wanted. Nothing else changes.
     pub fn copy(
         &self,
         alloc: Global,
+        form: Form,
         from: u64,
         most: u64,
         bytes: &mut [u8],
         count: &mut u64,
         notes: &mut u64,
     ) -> Code
-        ensures { CopiesTold self.now from most bytes.old count.old notes.old result bytes.new count.new notes.new }
+        ensures { CopiesTold self.now form from most bytes.old count.old notes.old result bytes.new count.new notes.new }
     {
         if !self.is_actor() {
             return Code::Empty;
         }
-        tell_copied(self.piece(alloc, from, most, bytes), count, notes)
+        tell_copied(self.piece(alloc, form, from, most, bytes), count, notes)
     }
 
-    /// Copies that text. Nobody but an actor has any.
+    /// Copies that. Nobody but an actor has any.
     fn piece(
         &self,
         alloc: Global,
+        form: Form,
         from: u64,
         most: u64,
         bytes: &mut [u8],
     ) -> Result<Piece, PassError>
-        ensures { CopiesOn self.now from most bytes.old result bytes.new }
+        ensures { CopiesOn self.now form from most bytes.old result bytes.new }
     {
         match self {
             Member::Core(core) => {
                 let number = ActorNo(core.number().0);
-                copy_piece(alloc, number, core.journal(), from, most, bytes)
+                copy_piece(alloc, number, form, core.journal(), from, most, bytes)
             }
             Member::Outside(outside) => copy_piece(
                 alloc,
                 outside.number(),
+                form,
                 outside.journal(),
                 from,
                 most,

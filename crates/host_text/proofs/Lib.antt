@@ -1,2 +1,3 @@
+pub mod BytesPieces
 pub mod Joined
 pub mod Pieces

@@ -8,6 +8,7 @@ use Rattle.text_words.specs.Notes.{note_line}
 use Rattle.note_journal.specs.Journals.{JournalView}
 use Rattle.text_journal.specs.Texts.{text_of}
 use Rattle.text_journal.proofs.LineLemmas.{front_text, text_of-append}
+use Rattle.host_text.specs.declared.part.Form.TheVariants.{Text}
 use Rattle.host_text.specs.Laws.{IsFront, PiecesAreJoined}
 use Rattle.host_text.specs.Parts.{IsPart}
 use Rattle.host_text.specs.Pieces.{IsPiece}
@@ -18,7 +19,7 @@ front_longer actor from count notes =
     sym (text_of-append (map (note_line actor) (take from notes)) (map (note_line actor) (take count (drop from notes)))) ∙
     (ap text_of (sym (map-append (note_line actor) (take from notes) (take count (drop from notes)))) ∙ ap (λ notes. text_of (map (note_line actor) notes)) (sym (take-add from count notes)))
 
-module _ (actor from most notes : ℕ) (journal : JournalView ℕ) (joined text : List ℕ) (front : IsFront actor from journal joined) (piece : IsPiece actor from most journal notes text) where
+module _ (actor from most notes : ℕ) (journal : JournalView ℕ) (joined text : List ℕ) (front : IsFront actor from journal joined) (piece : IsPiece actor Text from most journal notes text) where
   -- both are of the same notes
   same : piece.kept ≡ front.kept
   same = append_cancel_right piece.kept front.kept journal.passed (piece.whole ∙ sym front.whole)
@@ -28,7 +29,7 @@ module _ (actor from most notes : ℕ) (journal : JournalView ℕ) (joined text 
     kept = front.kept;
     whole = front.whole;
     lines =
-        ap (λ text. joined ++ text) (piece.lines ∙ ap (λ (kept : Journal ℕ). text_of (map (note_line actor) (take notes (drop from (reverse kept))))) same) ∙
+        ap (λ text. joined ++ text) (piece.is ∙ ap (λ (kept : Journal ℕ). text_of (map (note_line actor) (take notes (drop from (reverse kept))))) same) ∙
         (ap (λ joined. joined ++ text_of (map (note_line actor) (take notes (drop from (reverse front.kept))))) front.lines ∙ front_longer actor from notes (reverse front.kept));
   }
 

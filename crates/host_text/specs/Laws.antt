@@ -4,6 +4,7 @@ use Rattle.base_words.specs.Journal.{Journal}
 use Rattle.text_words.specs.Notes.{note_line}
 use Rattle.note_journal.specs.Journals.{JournalView}
 use Rattle.text_journal.specs.Texts.{actor_lines, text_of}
+use Rattle.host_text.specs.declared.part.Form.TheVariants.{Text}
 use Rattle.host_text.specs.Parts.{IsPart, PassesPart}
 use Rattle.host_text.specs.Pieces.{IsPiece}
 
@@ -19,8 +20,8 @@ pub record IsFront (actor count : ℕ) (journal : JournalView ℕ) (text : List 
   pub whole : kept ++ journal.passed ≡ journal.notes
   pub lines : text ≡ text_of (map (note_line actor) (take count (reverse kept)))
 
--- a piece from where the pieces so far end makes them longer; and if one that might have notes has none, they are the next part
+-- a piece of the text from where the pieces so far end makes them longer; and if one that might have notes has none, they are the next part
 abbrev pub PiecesAreJoined : Type 0
 PiecesAreJoined =
-    (actor from most notes : ℕ) (journal : JournalView ℕ) (joined text : List ℕ) → IsFront actor from journal joined → IsPiece actor from most journal notes text →
+    (actor from most notes : ℕ) (journal : JournalView ℕ) (joined text : List ℕ) → IsFront actor from journal joined → IsPiece actor Text from most journal notes text →
     IsFront actor (from + notes) journal (joined ++ text) × (0 < most → notes ≡ 0 → IsPart actor journal joined)

@@ -1,5 +1,6 @@
 pub mod Bad
 pub mod BadPieces
+pub mod BytesLaws
 pub mod Laws
 pub mod Parts
 pub mod Pieces

@@ -1,4 +1,4 @@
-//! What an actor of a hosted house hands on while it runs: the text of the notes that its journal keeps.
+//! What an actor of a hosted house hands on while it runs: the notes that its journal keeps, as text or in bytes.
 //!
 //! The journals that a house left behind: their audit, and their text in parts.
 #![tactic(auto)]
@@ -8,4 +8,4 @@ pub mod laws;
 pub mod part;
 
 pub use ended::{Ended, JudgeError, TextError};
-pub use part::{PassError, Piece, copy_kept, copy_piece};
+pub use part::{Form, PassError, Piece, copy_kept, copy_piece};

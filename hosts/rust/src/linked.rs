@@ -49,6 +49,6 @@ pub use house::{Config, Ended, House, Journals, Opened, Verdict};
 pub use jobs::Job;
 pub use lanes::Ringer;
 pub use names::{Answer, Name, Outcome, Reason, Step, Turn};
-pub use notes::{Journal, NoteCounts};
+pub use notes::{Form, Journal, NoteCounts};
 pub use outside::Outside;
 pub use tasks::{spawn, spawn_local, yield_now, Task};

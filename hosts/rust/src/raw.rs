@@ -201,6 +201,7 @@ extern "C" {
     pub fn fx_seat_pass_on(seat: *mut fx_seat, bytes: *mut u8, room: usize, count: *mut u64) -> u32;
     pub fn fx_seat_notes(seat: *mut fx_seat, kept: *mut u64, free_notes: *mut u64) -> u32;
     pub fn fx_seat_copy(seat: *mut fx_seat, from: u64, most: u64, bytes: *mut u8, room: usize, count: *mut u64, notes: *mut u64) -> u32;
+    pub fn fx_seat_copy_bytes(seat: *mut fx_seat, before: u64, from: u64, most: u64, bytes: *mut u8, room: usize, count: *mut u64, notes: *mut u64) -> u32;
     pub fn fx_seat_forget(seat: *mut fx_seat, count: *mut u64) -> u32;
     pub fn fx_seat_close(seat: *mut fx_seat, mode: u32) -> u32;
     pub fn fx_seat_shut(seat: *mut fx_seat, sender: u32) -> u32;

@@ -1,6 +1,6 @@
 //! What becomes of the notes of a house.
 
-use fairexec::linked::{Config, Core, House, Journal, NoteCounts, Opened, Outcome, Outside, Step};
+use fairexec::linked::{Config, Core, Form, House, Journal, NoteCounts, Opened, Outcome, Outside, Step};
 use fairexec::{Error, Mode};
 use std::sync::{Arc, Mutex};
 
@@ -53,6 +53,73 @@ fn notes_go_on_before_a_long_journal_is_full() -> Result<(), Error> {
     let counts = cores[0].note_counts()?;
     assert_eq!((counts.kept as usize + parts.iter().sum::<usize>(), counts.kept + counts.free), (16_000, 1 << 12));
     assert_eq!((cores[0].forget()?, cores[0].note_counts()?), (counts.kept, NoteCounts { kept: 0, free: 1 << 12 }));
+    Ok(())
+}
+
+/// The actor, how many notes came before, and how many notes there are, of each part.
+fn heads_of(bytes: &[u8]) -> Vec<(u8, u64, u64)> {
+    let (mut rest, mut heads) = (bytes, Vec::new());
+    while !rest.is_empty() {
+        assert_eq!(&rest[..4], b"fxp1");
+        let [before, count, size] = [5, 13, 21].map(|at| u64::from_le_bytes(rest[at..at + 8].try_into().expect("8 bytes")));
+        let (part, after) = rest.split_at(29 + size as usize);
+        let (mut first, mut second) = (0_u64, 0_u64);
+        for byte in part {
+            first += u64::from(*byte);
+            second += first;
+        }
+        assert_eq!(after[..16], [first.to_le_bytes(), second.to_le_bytes()].concat()[..]);
+        heads.push((part[4], before, count));
+        rest = &after[16..];
+    }
+    heads
+}
+
+// Each part goes on where the one before ended, and what was forgotten in between is missing.
+#[test]
+fn parts_in_bytes_say_how_many_notes_came_before() -> Result<(), Error> {
+    let config = Config { places: 4, notes: 1 << 12, form: Form::Bytes, ..Config::default() };
+    let (house, mut cores, mut outside): Opened<u64> = House::open(&config)?;
+    assert_eq!(&config.head(), b"fxh1\x01\x01\x04\x00");
+    let mut none = Vec::new();
+    cores[0].pass_on(&mut none)?;
+    assert!(none.is_empty());
+    run_jobs(&mut cores[0], &mut outside, 100)?;
+    let mut first = Vec::new();
+    cores[0].pass_on(&mut first)?;
+    assert_eq!(heads_of(&first), [(0, 0, 256), (0, 256, 144)]);
+    run_jobs(&mut cores[0], &mut outside, 10)?;
+    assert_eq!(cores[0].forget()?, 40);
+    let parts = Arc::new(Mutex::new(Vec::new()));
+    let takes = Arc::clone(&parts);
+    cores[0].keep_notes_by(move |part| takes.lock().expect("no panic").extend_from_slice(part));
+    run_jobs(&mut cores[0], &mut outside, 4000)?;
+    let mut all = parts.lock().expect("no panic").clone();
+    assert!(all.len() > 4 * 4096);
+    cores[0].pass_on(&mut all)?;
+    let mut found = 440;
+    for (actor, before, count) in heads_of(&all) {
+        assert!((actor, before) == (0, found) && count > 0);
+        found += count;
+    }
+    assert_eq!(found, 16_440);
+    cores[0].close(Mode::Finish)?;
+    while cores[0].round(|job, _| Step::Done(*job))? {}
+    assert!(house.end(cores, outside).is_ok());
+    Ok(())
+}
+
+// The newest notes are told as text, and those that were forgotten before are counted.
+#[test]
+fn the_newest_notes_of_a_house_in_bytes_are_text() -> Result<(), Error> {
+    let config = Config { places: 4, notes: 12, journal: Journal::Last(5), form: Form::Bytes, ..Config::default() };
+    let (_house, mut cores, mut outside): Opened<u64> = House::open(&config)?;
+    run_jobs(&mut cores[0], &mut outside, 100)?;
+    let (mut text, mut part) = (Vec::new(), Vec::new());
+    assert_eq!(cores[0].newest(1, &mut text)?, 1);
+    assert_eq!(String::from_utf8_lossy(&text), "0 done 1>0#100 0 = 99\n");
+    cores[0].pass_on(&mut part)?;
+    assert!(matches!(heads_of(&part)[..], [(0, before, count)] if before + count == 400));
     Ok(())
 }
 

@@ -9,6 +9,7 @@ use std::fmt;
 use std::future::Future;
 use std::panic::AssertUnwindSafe;
 use std::pin::Pin;
+use std::sync::atomic::{AtomicBool, Ordering};
 use std::sync::{Arc, Mutex, PoisonError};
 use std::task::{Context, Poll};
 use std::thread::{self, ThreadId};
@@ -74,21 +75,45 @@ impl std::error::Error for JoinError {}
 /// })?;
 /// # Ok::<(), fairexec_rt::Error>(())
 /// ```
-pub struct JoinHandle<T>(Option<FallibleTask<Result<T, Panic>>>);
+pub struct JoinHandle<T> {
+    // None once it was let go.
+    task: Option<FallibleTask<Result<T, Panic>>>,
+    has_ended: Arc<AtomicBool>,
+}
 
 impl<T> JoinHandle<T> {
     /// Drops the task, at its next turn if it doesn't run. Its value is lost if it has ended.
     pub fn abort(mut self) {
-        drop(self.0.take());
+        drop(self.task.take());
     }
 
     /// Lets the task run on. To drop the handle does the same.
     pub fn detach(self) {}
+
+    /// Whether the task has ended, by its value, by a panic or as it was dropped. Then the handle has what it came to.
+    ///
+    /// ```
+    /// use fairexec_rt::{sleep, spawn_local, yield_now, Executor, Queue};
+    /// use std::time::Duration;
+    ///
+    /// Executor::builder().run(|_| async {
+    ///     let sleeps = spawn_local(Queue::FIRST, sleep(Duration::from_secs(3600)));
+    ///     let ends = spawn_local(Queue::FIRST, async { 42 });
+    ///     while !ends.is_finished() {
+    ///         yield_now().await;
+    ///     }
+    ///     assert_eq!((ends.await.unwrap(), sleeps.is_finished()), (42, false));
+    /// })?;
+    /// # Ok::<(), fairexec_rt::Error>(())
+    /// ```
+    pub fn is_finished(&self) -> bool {
+        self.has_ended.load(Ordering::Acquire)
+    }
 }
 
 impl<T> Drop for JoinHandle<T> {
     fn drop(&mut self) {
-        if let Some(task) = self.0.take() {
+        if let Some(task) = self.task.take() {
             task.detach();
         }
     }
@@ -98,7 +123,7 @@ impl<T> Future for JoinHandle<T> {
     type Output = Result<T, JoinError>;
 
     fn poll(mut self: Pin<&mut Self>, cx: &mut Context<'_>) -> Poll<Self::Output> {
-        let Some(task) = &mut self.0 else { return Poll::Ready(Err(JoinError(None))) };
+        let Some(task) = &mut self.task else { return Poll::Ready(Err(JoinError(None))) };
         task.poll(cx).map(|told| match told {
             Some(Ok(value)) => Ok(value),
             Some(Err(panic)) => Err(JoinError(Some(Mutex::new(panic)))),
@@ -108,12 +133,19 @@ impl<T> Future for JoinHandle<T> {
 }
 
 /// The place of a task among those of its core, which is free again once its future is dropped.
-struct Alive(usize);
+struct Alive {
+    number: usize,
+    // Of a task that has a handle.
+    has_ended: Option<Arc<AtomicBool>>,
+}
 
 impl Drop for Alive {
     fn drop(&mut self) {
+        if let Some(it) = &self.has_ended {
+            it.store(true, Ordering::Release);
+        }
         // The waker is dropped behind the borrow.
-        let _waker = with_here(|it| it.alive.borrow_mut().try_remove(self.0));
+        let _waker = with_here(|it| it.alive.borrow_mut().try_remove(self.number));
     }
 }
 
@@ -167,11 +199,16 @@ impl Home {
 }
 
 /// A task that was made and not handed in yet.
-fn make<T: 'static>(local: &Local, queue: u32, future: impl Future<Output = T> + 'static) -> (Turn, FallibleTask<Result<T, Panic>>) {
+fn make<T: 'static>(
+    local: &Local,
+    queue: u32,
+    has_ended: Option<Arc<AtomicBool>>,
+    future: impl Future<Output = T> + 'static,
+) -> (Turn, FallibleTask<Result<T, Panic>>) {
     let mut all = local.alive.borrow_mut();
     let entry = all.vacant_entry();
     let number = entry.key();
-    let alive = Alive(number);
+    let alive = Alive { number, has_ended };
     let thread = local.thread;
     let home = Home { shared: Arc::clone(&local.shared), core: local.number, queue, task: number, thread };
     let future = async move {
@@ -206,16 +243,17 @@ fn make<T: 'static>(local: &Local, queue: u32, future: impl Future<Output = T> +
 pub fn spawn_local<T: 'static>(queue: Queue, future: impl Future<Output = T> + 'static) -> JoinHandle<T> {
     here(|it| {
         it.check(it.number, queue);
-        let (turn, task) = make(it, queue.0, future);
+        let has_ended = Arc::new(AtomicBool::new(false));
+        let (turn, task) = make(it, queue.0, Some(Arc::clone(&has_ended)), future);
         it.hand_in(queue.0, turn);
-        JoinHandle(Some(task))
+        JoinHandle { task: Some(task), has_ended }
     })
 }
 
 /// Starts a task in the run that goes on. Its first poll is part of that.
 pub(crate) fn start_now(queue: u32, future: impl Future<Output = ()> + 'static) {
     here(|it| {
-        let (turn, task) = make(it, queue, future);
+        let (turn, task) = make(it, queue, None, future);
         task.detach();
         it.run_within(queue, turn);
     });

@@ -103,6 +103,30 @@ fn what_is_left_is_dropped() {
 }
 
 #[test]
+fn a_handle_tells_whether_its_task_has_ended() {
+    let kept = Arc::new(Mutex::new(None));
+    let keeps = Arc::clone(&kept);
+    let run = Executor::builder().run(move |_| {
+        let keeps = Arc::clone(&keeps);
+        async move {
+            let ends = spawn_local(Queue::FIRST, async { 42 });
+            let panics = spawn_local(Queue::FIRST, async { panic!("it ends alone") });
+            let waits = spawn_local(Queue::FIRST, std::future::pending::<()>());
+            assert!(!ends.is_finished() && !panics.is_finished());
+            for _ in 0..3 {
+                yield_now().await;
+            }
+            assert!(ends.is_finished() && panics.is_finished() && !waits.is_finished());
+            assert!(ends.await.unwrap() == 42 && panics.await.unwrap_err().is_panic());
+            *keeps.lock().unwrap() = Some(waits);
+        }
+    });
+    run.unwrap();
+    // It was dropped as its core ended.
+    assert!(kept.lock().unwrap().take().unwrap().is_finished());
+}
+
+#[test]
 fn queues_have_time_by_their_shares() {
     let report = Executor::builder()
         .queue("first", 1000)
@@ -226,11 +250,18 @@ fn parts_have_every_note() {
         }
     });
     let report = report.unwrap();
-    for part in 0..2 {
-        let text = std::fs::read_to_string(folder.join(format!("part{part}"))).unwrap();
-        assert!(text.ends_with('\n') && text.lines().count() > 1500);
-        assert!(report.cores[part].journal_bytes <= text.len() as u64);
+    let files: Vec<_> = report.parts.iter().map(|it| std::fs::read(it).unwrap()).collect();
+    assert_eq!((files.len(), files[0].as_slice()), (4, b"fxh1\x02\x01\x00\x02".as_slice()));
+    for core in 0..2 {
+        let (mut rest, mut notes) = (files[core + 1].as_slice(), 0);
+        assert!(report.cores[core].journal_bytes <= rest.len() as u64);
+        // A part says whose it is, how many notes came before, how many it has, and how many bytes these have.
+        while !rest.is_empty() {
+            let [before, count, size] = [5, 13, 21].map(|at| u64::from_le_bytes(rest[at..at + 8].try_into().unwrap()));
+            assert!(rest[..5] == *b"fxp1".iter().chain(&[core as u8]).copied().collect::<Vec<_>>() && before == notes && count > 0);
+            (notes, rest) = (notes + count, &rest[45 + size as usize..]);
+        }
+        assert!(notes > 1500);
     }
-    assert_eq!(std::fs::read_to_string(folder.join("rest")).unwrap().lines().count(), 3);
     std::fs::remove_dir_all(folder).unwrap();
 }

@@ -379,8 +379,10 @@ macro_rules! submissions {
             self.$($entered)+.detach(ticket)
         }
 
-        /// Puts the text of the notes that the journal keeps behind this text, and forgets them. The journal keeps none of them then, and all its notes
-        /// are free. All parts of an actor are its notes in the text of the journals.
+        /// Puts the notes that the journal keeps behind these bytes, in the [`Form`] of the house, and forgets them. The journal keeps none of them
+        /// then, and all its notes are free. All parts of an actor are its notes in the text of the journals, or in the journals as bytes.
+        ///
+        /// [`Form`]: super::Form
         ///
         /// # Errors
         ///
@@ -419,10 +421,10 @@ macro_rules! submissions {
             self.$($entered)+.seat.newest(most, text)
         }
 
-        /// From now on the text of the notes goes to `takes`, before the journal is full: about a thousand at a time, and no call hands on more than 4096
+        /// From now on notes go to `takes`, as by `pass_on`, before the journal is full: about a thousand at a time, and no call hands on more than 4096
         /// or goes on with it for longer than 1 ms. A journal that has room for fewer than 2048, or is nearly full by now, goes out when it is full. So
         /// `JournalFull` comes only if the journal has room for fewer notes than one call may need. What is kept at
-        /// the end goes out by `pass_on`. If `takes` panics, the text goes first to who takes notes the next time, or out by `pass_on`.
+        /// the end goes out by `pass_on`. If `takes` panics, the bytes go first to who takes notes the next time, or out by `pass_on`.
         pub fn keep_notes_by(&mut self, takes: impl FnMut(&[u8]) + Send + 'static) {
             self.$($entered)+.seat.keep_notes_by(Box::new(takes));
         }

@@ -3,7 +3,7 @@
 use super::actor::Actor;
 use super::core::Core;
 use super::lanes::Lanes;
-use super::notes::Journal;
+use super::notes::{Form, Journal};
 use super::outside::Outside;
 use super::seat::Seat;
 use crate::error::{refused, Error};
@@ -33,11 +33,21 @@ pub struct Config {
     pub notes: u32,
     /// What becomes of them.
     pub journal: Journal,
+    /// How they are passed on.
+    pub form: Form,
+}
+
+impl Config {
+    /// What stands before the parts of all actors if they are passed on in bytes: `fxh1`, the count of the cores, the burst, and the places.
+    pub fn head(&self) -> [u8; 8] {
+        let [low, high, ..] = self.places.to_le_bytes();
+        [b'f', b'x', b'h', b'1', self.cores as u8, self.burst as u8, low, high]
+    }
 }
 
 impl Default for Config {
     fn default() -> Config {
-        Config { cores: 1, places: 64, burst: 1, notes: 1 << 20, journal: Journal::Keep }
+        Config { cores: 1, places: 64, burst: 1, notes: 1 << 20, journal: Journal::Keep, form: Form::Text }
     }
 }
 
@@ -94,14 +104,14 @@ impl<J> House<J> {
         // SAFETY: it takes nothing.
         let version = unsafe { raw::fx_version() };
         assert_eq!(version, raw::FX_VERSION, "libfairexec.a has another version");
-        let Config { cores, places, burst, notes, journal } = *config;
+        let Config { cores, places, burst, notes, journal, form } = *config;
         let asked = raw::fx_config { size: size_of::<raw::fx_config>() as u32, cores, places, burst, notes };
         let mut handle = Handle(raw::fx_house { at: std::ptr::null_mut() });
         // SAFETY: the handle is empty, and both pointers are to local values.
         refused(unsafe { raw::fx_house_open(&mut handle.0, &asked) })?;
         let lanes = Arc::new(Lanes::new(cores, places));
         let mut actors = (0..=cores)
-            .map(|_| Seat::take(&mut handle.0, journal).map(|(number, seat)| Actor::new(number, seat, Arc::clone(&lanes))))
+            .map(|_| Seat::take(&mut handle.0, journal, form).map(|(number, seat)| Actor::new(number, seat, Arc::clone(&lanes))))
             .collect::<Result<Vec<_>, _>>()?;
         // The outside actor comes first, and then the cores from the greatest number on.
         actors.reverse();

@@ -34,6 +34,33 @@ pub enum Journal {
     Last(u32),
 }
 
+/// How `pass_on` and `keep_notes_by` write notes.
+///
+/// ```
+/// use fairexec::linked::{Config, Form, House, Step};
+///
+/// let config = Config { form: Form::Bytes, ..Config::default() };
+/// let (_house, mut cores, mut outside) = House::open(&config)?;
+/// let ticket = outside.submit(0, 0, 20_u64).map_err(|(error, _)| error)?;
+/// while cores[0].round(|job, _| Step::Done(2 * *job))? {}
+/// outside.wait_for(&ticket)?;
+/// // So far these are the journals: `fairexec audit` reads them.
+/// let mut all = config.head().to_vec();
+/// cores[0].pass_on(&mut all)?;
+/// outside.pass_on(&mut all)?;
+/// assert!(all.starts_with(b"fxh1\x01\x01\x40\x00fxp1\x00"));
+/// # Ok::<(), fairexec::Error>(())
+/// ```
+#[derive(Clone, Copy, PartialEq, Eq, Debug, Default)]
+pub enum Form {
+    /// As text: some 40 bytes and 250 ns a note.
+    #[default]
+    Text,
+    /// As parts of a journal in bytes: some 16 bytes and a fifth of that time. [`Config::head`](super::Config::head), all parts of core 0, and those of each
+    /// further actor by its number, are the whole journals.
+    Bytes,
+}
+
 /// How many notes a journal keeps, and how many more it has room for.
 ///
 /// ```
@@ -78,16 +105,27 @@ fn forget(seat: &mut raw::fx_seat) -> Result<u64, Error> {
     Ok(count)
 }
 
-/// Puts the text of so many notes at most behind this text, from this place on. How many notes these are.
-fn copy_piece(seat: &mut raw::fx_seat, from: u64, most: u64, text: &mut Vec<u8>) -> Result<u64, Error> {
+/// Puts so many notes at most behind these bytes, from this place on: as text, or as a part if it is told how many notes are gone. How many these are.
+fn copy_piece(seat: &mut raw::fx_seat, gone: Option<u64>, from: u64, most: u64, text: &mut Vec<u8>) -> Result<u64, Error> {
     loop {
         let (had, room) = (text.len(), text.capacity() - text.len());
         let (mut count, mut notes) = (0, 0);
-        // SAFETY: as above; behind what it has the vector has room for as many bytes as the call is told.
-        match unsafe { raw::fx_seat_copy(seat, from, most, text.as_mut_ptr().add(had), room, &mut count, &mut notes) } {
+        // SAFETY: as above; behind what it has the vector has room for as many bytes as the calls are told.
+        let code = unsafe {
+            let bytes = text.as_mut_ptr().add(had);
+            match gone {
+                None => raw::fx_seat_copy(seat, from, most, bytes, room, &mut count, &mut notes),
+                Some(gone) => raw::fx_seat_copy_bytes(seat, gone + from, from, most, bytes, room, &mut count, &mut notes),
+            }
+        };
+        match code {
             raw::FX_SHORT => text.reserve(count as usize),
             code => {
                 refused(code)?;
+                // A part of no notes would be its head and its sums.
+                if notes == 0 {
+                    return Ok(0);
+                }
                 // SAFETY: the call wrote so many bytes there.
                 unsafe { text.set_len(had + count as usize) };
                 #[cfg(test)]
@@ -98,12 +136,12 @@ fn copy_piece(seat: &mut raw::fx_seat, from: u64, most: u64, text: &mut Vec<u8>)
     }
 }
 
-/// Puts the text of notes that the journal of a seat keeps behind this text, from this place on: of all, or of as many as a pause may take. How many
-/// notes these are. An error leaves the text as it was.
-fn copy(seat: &mut raw::fx_seat, from: u64, text: &mut Vec<u8>, is_short: bool) -> Result<u64, Error> {
+/// Puts notes that the journal of a seat keeps behind these bytes, from this place on: all, or as many as a pause may take. How many these are. An
+/// error leaves the bytes as they were.
+fn copy(seat: &mut raw::fx_seat, gone: Option<u64>, from: u64, text: &mut Vec<u8>, is_short: bool) -> Result<u64, Error> {
     let (had, mut all, began) = (text.len(), 0, Instant::now());
     loop {
-        match copy_piece(seat, from + all, COPIED, text) {
+        match copy_piece(seat, gone, from + all, COPIED, text) {
             Ok(COPIED) => all += COPIED,
             Ok(notes) => return Ok(all + notes),
             Err(error) => {
@@ -117,26 +155,35 @@ fn copy(seat: &mut raw::fx_seat, from: u64, text: &mut Vec<u8>, is_short: bool) 
     }
 }
 
-/// Of the notes that a journal keeps so many, the oldest, went on as text already.
-#[derive(Default)]
-pub(super) struct Passed(u64);
+/// How far the notes of a journal went on.
+pub(super) struct Passed {
+    form: Form,
+    // Of those that it keeps so many, the oldest, went on already.
+    at: u64,
+    // So many were kept and are no more.
+    gone: u64,
+}
 
 impl Passed {
+    pub(super) fn new(form: Form) -> Passed {
+        Passed { form, at: 0, gone: 0 }
+    }
+
     /// Whether so many that are kept make a piece that didn't go on.
     pub(super) fn has_piece(&self, kept: u64) -> bool {
-        kept - self.0 >= PIECE
+        kept - self.at >= PIECE
     }
 
     /// Whether some went on that are kept still.
     pub(super) fn is_between(&self) -> bool {
-        self.0 > 0
+        self.at > 0
     }
 
-    /// Puts the text of notes that didn't go on behind this text: of all, or of as many as a pause may take. Once none is left, the journal forgets
-    /// them.
+    /// Puts notes that didn't go on behind these bytes: all, or as many as a pause may take. Once none is left, the journal forgets them.
     pub(super) fn pass_on(&mut self, seat: &mut raw::fx_seat, text: &mut Vec<u8>, is_short: bool) -> Result<(), Error> {
-        self.0 += copy(seat, self.0, text, is_short)?;
-        if self.0 == counts(seat)?.kept {
+        let gone = (self.form == Form::Bytes).then_some(self.gone);
+        self.at += copy(seat, gone, self.at, text, is_short)?;
+        if self.at == counts(seat)?.kept {
             self.forget(seat)?;
         }
         Ok(())
@@ -144,8 +191,10 @@ impl Passed {
 
     /// Forgets the notes that the journal keeps. How many they were.
     pub(super) fn forget(&mut self, seat: &mut raw::fx_seat) -> Result<u64, Error> {
-        self.0 = 0;
-        forget(seat)
+        self.at = 0;
+        let count = forget(seat)?;
+        self.gone += count;
+        Ok(count)
     }
 }
 
@@ -201,7 +250,7 @@ impl Newest {
         let from = self.at.max(goal.saturating_sub(most));
         if kept > from {
             let mut text = Vec::new();
-            let notes = copy(seat, from, &mut text, true)?;
+            let notes = copy(seat, None, from, &mut text, true)?;
             self.next.push(notes, text);
             self.at = from + notes;
         }
@@ -214,11 +263,11 @@ impl Newest {
     }
 
     /// Forgets the notes that the journal of a seat keeps, and has the text of so many of the newest from then on.
-    pub(super) fn roll(&mut self, seat: &mut raw::fx_seat, most: u64) -> Result<(), Error> {
+    pub(super) fn roll(&mut self, seat: &mut raw::fx_seat, passed: &mut Passed, most: u64) -> Result<(), Error> {
         let from = self.at.max(counts(seat)?.kept.saturating_sub(most));
         let mut text = Vec::new();
-        let notes = copy(seat, from, &mut text, false)?;
-        forget(seat)?;
+        let notes = copy(seat, None, from, &mut text, false)?;
+        passed.forget(seat)?;
         let mut next = std::mem::take(&mut self.next);
         next.push(notes, text);
         self.at = 0;
@@ -231,7 +280,7 @@ impl Newest {
         let kept = counts(seat)?.kept;
         let (had, new) = (text.len(), kept.min(most));
         let old = self.old.tell(most - new, text);
-        if let Err(error) = copy(seat, kept - new, text, false) {
+        if let Err(error) = copy(seat, None, kept - new, text, false) {
             text.truncate(had);
             return Err(error);
         }

@@ -1,7 +1,7 @@
 //! A seat of a house: the calls of the library, without the jobs.
 
 use super::names::{Name, Step};
-use super::notes::{counts, Journal, Newest, NoteCounts, Passed, PIECE};
+use super::notes::{counts, Form, Journal, Newest, NoteCounts, Passed, PIECE};
 use crate::core::Mode;
 use crate::error::{refused, Error};
 use crate::raw;
@@ -85,9 +85,10 @@ pub(super) fn this_thread() -> u64 {
 // The calls of one thread stand between `enter` and `leave`.
 impl Seat {
     /// The next seat of a house, with its number.
-    pub(super) fn take(house: &mut raw::fx_house, journal: Journal) -> Result<(u32, Seat), Error> {
+    pub(super) fn take(house: &mut raw::fx_house, journal: Journal, form: Form) -> Result<(u32, Seat), Error> {
         let handle = raw::fx_seat { at: std::ptr::null_mut() };
-        let mut seat = Seat { handle, journal, newest: Newest::default(), keeper: None, passed: Passed::default(), left: CALLS, user: AtomicU64::new(0) };
+        let (newest, passed) = (Newest::default(), Passed::new(form));
+        let mut seat = Seat { handle, journal, newest, keeper: None, passed, left: CALLS, user: AtomicU64::new(0) };
         let mut actor = 0;
         seat.enter();
         // SAFETY: the house is open, and the seat is empty.
@@ -175,8 +176,8 @@ impl Seat {
         self.keeper = Some(Keeper { takes, text });
     }
 
-    /// Hands notes to whoever takes them, all or as many as a pause may take, or forgets them, if they don't stay. A panic leaves their text where it
-    /// is: it goes first the next time.
+    /// Hands notes to whoever takes them, all or as many as a pause may take, or forgets them, if they don't stay. A panic leaves what was written where
+    /// it is: it goes first the next time.
     #[cold]
     fn hand_on(&mut self, is_short: bool) -> Result<(), Error> {
         if let Some(Keeper { takes, text }) = &mut self.keeper {
@@ -188,7 +189,7 @@ impl Seat {
         match self.journal {
             Journal::Keep => Err(Error::JournalFull),
             Journal::Forget => self.passed.forget(&mut self.handle).map(|_| ()),
-            Journal::Last(most) => self.newest.roll(&mut self.handle, u64::from(most)),
+            Journal::Last(most) => self.newest.roll(&mut self.handle, &mut self.passed, u64::from(most)),
         }
     }
 
@@ -211,7 +212,7 @@ impl Seat {
         self.newest.tell(&mut self.handle, most, text)
     }
 
-    /// Puts the text of the notes that the journal keeps behind this text, and before it what wasn't taken.
+    /// Puts the notes that the journal keeps behind these bytes, and before them what wasn't taken.
     pub(super) fn pass_on(&mut self, text: &mut Vec<u8>) -> Result<(), Error> {
         let mut none = Vec::new();
         let untaken = self.keeper.as_mut().map_or(&mut none, |it| &mut it.text);
