@@ -42,7 +42,8 @@ impl Reads {
         Reads { stop: stopping(), idle: idle.map(|it| (it, Instant::now(), sleep(it))) }
     }
 
-    /// Puts what comes next behind these bytes. False at the end of the connection, of the time or of the executor.
+    /// Puts what comes next behind these bytes, at most 64 KiB. False at the end of the connection, of the time or of the executor. Bytes that are
+    /// there are read first, also after a stop. A read that is dropped loses nothing.
     ///
     /// # Errors
     ///
