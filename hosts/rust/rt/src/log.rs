@@ -111,10 +111,11 @@ struct Files {
 pub struct Log(Rc<Files>);
 
 impl Log {
-    /// The log in a folder, which is made if it isn't there. Each record goes to `each`, in its order. How many bytes were cut off is told. What is
-    /// appended is written by tasks of this queue.
+    /// The log in a folder, which is made if it isn't there, with those above it. Each record goes to `each`, in its order. How many bytes were cut
+    /// off is told. What is appended is written by tasks of this queue.
     ///
-    /// A folder has one log at a time.
+    /// A folder has one log at a time. Nothing refuses a second one, as when a server is started twice: then each overwrites what was safe in the
+    /// other. A server locks a file before, as by `std::fs::File::try_lock`.
     ///
     /// # Errors
     ///
@@ -180,7 +181,7 @@ impl Log {
         self.len() == 0
     }
 
-    /// A compaction, if it pays and none goes on: since the last one as many bytes were appended as there were, and so many more.
+    /// A compaction, if none goes on and it pays: the bytes that were appended since the last one are more than what that left and `spare` together.
     pub fn compaction(&self, spare: u64) -> Option<Compaction> {
         let pays = self.0.appender.len() > self.0.appender.before() + spare;
         (pays && !self.0.is_compacting.replace(true)).then(|| Compaction(self.clone()))
@@ -228,8 +229,9 @@ impl Drop for Compaction {
 }
 
 impl Compaction {
-    /// Begins it, in a file that tasks of this queue write. What is appended to the log from then on stands behind what this is told, so that may have
-    /// it already.
+    /// Begins it, in a file that tasks of this queue write. What is appended to the log from then on is read behind what the compaction is told. The
+    /// compaction may have the same already, so a record that is read twice must do what it does once. What the compaction is told is looked up when
+    /// this has ended: what was looked up before may lack records that the compaction replaces.
     ///
     /// # Errors
     ///

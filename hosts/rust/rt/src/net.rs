@@ -55,7 +55,8 @@ impl TcpListener {
         TcpListener::listen(address, false)
     }
 
-    /// The same on each core that wants to: the system gives each connection to one of them.
+    /// The same on each core that wants to: the system gives each connection to one of them. Another process of the same user isn't refused, and gets
+    /// some of the connections.
     ///
     /// # Errors
     ///

@@ -11,7 +11,8 @@ use std::time::{Duration, Instant};
 
 thread_local!(static ROOM: RefCell<Vec<u8>> = RefCell::new(vec![0; 1 << 16]));
 
-/// The reads of a server's connection. They end when nothing came for a time, and once the executor stops.
+/// The reads of a server's connection. They end when nothing came for a time, and once the executor stops. The time begins when a read waits: what
+/// the server does between two reads doesn't count.
 ///
 /// ```
 /// use fairexec_rt::net::{Reads, UnixStream};
@@ -32,17 +33,18 @@ thread_local!(static ROOM: RefCell<Vec<u8>> = RefCell::new(vec![0; 1 << 16]));
 /// ```
 pub struct Reads {
     stop: Stopping,
-    // When something came last, and what ends the wait.
-    idle: Option<(Duration, Instant, Sleep)>,
+    // Since when reads wait, if nothing came since then, and what ends the wait.
+    idle: Option<(Duration, Option<Instant>, Sleep)>,
 }
 
 impl Reads {
     /// Reads that end when nothing came for so long, if that is given.
     pub fn new(idle: Option<Duration>) -> Reads {
-        Reads { stop: stopping(), idle: idle.map(|it| (it, Instant::now(), sleep(it))) }
+        Reads { stop: stopping(), idle: idle.map(|it| (it, None, sleep(it))) }
     }
 
-    /// Puts what comes next behind these bytes. False at the end of the connection, of the time or of the executor.
+    /// Puts what comes next behind these bytes, at most 64 KiB. False at the end of the connection, of the time or of the executor. Bytes that are
+    /// there are read first, also after a stop. A read that is dropped loses nothing.
     ///
     /// # Errors
     ///
@@ -62,7 +64,7 @@ impl Reads {
             });
             match count {
                 Poll::Ready(told) => {
-                    self.idle.iter_mut().for_each(|it| it.1 = Instant::now());
+                    self.idle.iter_mut().for_each(|it| it.1 = None);
                     Poll::Ready(told.map(|count| count > 0))
                 }
                 Poll::Pending if Pin::new(&mut self.stop).poll(cx).is_ready() || self.is_over(cx) => Poll::Ready(Ok(false)),
@@ -74,9 +76,10 @@ impl Reads {
 
     /// Whether nothing came for so long. A timer that is due because something came meanwhile is set anew, so a read sets none.
     fn is_over(&mut self, cx: &mut Context<'_>) -> bool {
-        let Some((longest, last, sleep)) = &mut self.idle else { return false };
+        let Some((longest, since, sleep)) = &mut self.idle else { return false };
+        let since = since.get_or_insert_with(Instant::now);
         while Pin::new(&mut *sleep).poll(cx).is_ready() {
-            let left = longest.saturating_sub(last.elapsed());
+            let left = longest.saturating_sub(since.elapsed());
             if left.is_zero() {
                 return true;
             }

@@ -1,7 +1,7 @@
 //! Sockets, signals and files.
 
-use fairexec_rt::net::{TcpListener, TcpStream, UnixListener, UnixStream};
-use fairexec_rt::{chan, fs, signal, spawn_local, stop, stopping, submit, timeout, Executor, Journal, Queue};
+use fairexec_rt::net::{Reads, TcpListener, TcpStream, UnixListener, UnixStream};
+use fairexec_rt::{chan, fs, signal, sleep, spawn_local, stop, stopping, submit, timeout, Executor, Journal, Queue};
 use futures_lite::{future, AsyncReadExt, AsyncWriteExt};
 use std::time::Duration;
 
@@ -151,4 +151,31 @@ fn channels_carry_values_between_cores() {
             stop(Duration::ZERO);
         })
         .unwrap();
+}
+
+/// A client waits for answers that take longer than it may be idle, and asks again soon after each. Then it is idle.
+#[test]
+fn a_slow_answer_isnt_idle() {
+    let (idle, slow) = (Duration::from_millis(200), Duration::from_millis(250));
+    let run = Executor::builder().run(move |_| async move {
+        let (mut client, stream) = UnixStream::pair().unwrap();
+        let serves = spawn_local(Queue::FIRST, async move {
+            let (mut reads, mut bytes) = (Reads::new(Some(idle)), Vec::new());
+            while reads.read(&stream, &mut bytes).await.unwrap() {
+                sleep(slow).await;
+                (&stream).write_all(&bytes).await.unwrap();
+                bytes.clear();
+            }
+        });
+        for it in 0..3 {
+            client.write_all(&[it]).await.unwrap();
+            let mut told = [7];
+            client.read_exact(&mut told).await.unwrap();
+            assert_eq!(told, [it]);
+            sleep(Duration::from_millis(20)).await;
+        }
+        assert_eq!(client.read(&mut [0]).await.unwrap(), 0);
+        serves.await.unwrap();
+    });
+    run.unwrap();
 }
