@@ -189,7 +189,7 @@ async fn serve(here: Here, stream: TcpStream, lease: Duration) -> io::Result<()>
         if AsyncReadExt::take(&mut lines, LINE).read_line(&mut line).await? == 0 {
             return Ok(());
         }
-        let told = answer(&here, line.trim_end(), lease).await.map_err(io::Error::other)?;
+        let told = answer(&here, line.trim_end(), lease).await?;
         (&stream).write_all(format!("{told}\n").as_bytes()).await?;
     }
 }

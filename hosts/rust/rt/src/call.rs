@@ -45,6 +45,12 @@ impl fmt::Display for CallError {
 
 impl std::error::Error for CallError {}
 
+impl From<CallError> for std::io::Error {
+    fn from(error: CallError) -> std::io::Error {
+        std::io::Error::other(error)
+    }
+}
+
 /// What both sides of a call share.
 struct Answer<T> {
     value: Option<Result<T, CallError>>,

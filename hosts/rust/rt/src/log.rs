@@ -7,6 +7,7 @@ use std::cell::Cell;
 use std::collections::BTreeSet;
 use std::fs;
 use std::io;
+use std::os::fd::AsRawFd;
 use std::path::{Path, PathBuf};
 use std::rc::Rc;
 use std::time::Duration;
@@ -69,8 +70,23 @@ fn tidy(folder: &Path) -> io::Result<BTreeSet<Name>> {
     Ok(kept)
 }
 
+/// Keeps other logs out of a folder, those of other processes too, until this is dropped or its process ends.
+fn lock(folder: &Path) -> io::Result<fs::File> {
+    let file = fs::OpenOptions::new().create(true).truncate(false).write(true).open(folder.join("lock"))?;
+    // SAFETY: the descriptor is the file's, which is open.
+    if unsafe { libc::flock(file.as_raw_fd(), libc::LOCK_EX | libc::LOCK_NB) } == 0 {
+        return Ok(file);
+    }
+    match io::Error::last_os_error() {
+        error if error.kind() == io::ErrorKind::WouldBlock => Err(io::Error::new(error.kind(), "another log has this folder")),
+        error => Err(error),
+    }
+}
+
 struct Files {
     folder: PathBuf,
+    // It is held, and nothing else.
+    _lock: fs::File,
     appender: Appender,
     // The greatest number that a file has.
     number: Cell<u64>,
@@ -114,21 +130,22 @@ impl Log {
     /// The log in a folder, which is made if it isn't there, with those above it. Each record goes to `each`, in its order. How many bytes were cut
     /// off is told. What is appended is written by tasks of this queue.
     ///
-    /// A folder has one log at a time. Nothing refuses a second one, as when a server is started twice: then each overwrites what was safe in the
-    /// other. A server locks a file before, as by `std::fs::File::try_lock`.
+    /// A folder has one log at a time, and a lock on its file `lock` keeps others out, as when a server is started twice.
     ///
     /// # Errors
     ///
-    /// As the system answers.
+    /// `WouldBlock` while another log has the folder. Else as the system answers.
     pub async fn open(queue: Queue, folder: impl AsRef<Path>, fsync: Fsync, mut each: impl FnMut(&[u8])) -> io::Result<(Log, u64)> {
         let folder = folder.as_ref().to_owned();
         let of = folder.clone();
         let names = unblock(move || {
             fs::create_dir_all(&of)?;
-            tidy(&of)
+            let lock = lock(&of)?;
+            io::Result::Ok((lock, tidy(&of)?))
         });
         let (mut last, mut bytes, mut torn) = (None, 0, 0);
-        for name in names.await? {
+        let (_lock, names) = names.await?;
+        for name in names {
             let (appender, cut) = Appender::open(queue, &path(&folder, name), fsync, &mut each).await?;
             (bytes, torn) = (bytes + appender.len(), torn + cut);
             last = Some((name, appender));
@@ -141,7 +158,7 @@ impl Log {
             }
         };
         appender.set_before(bytes - appender.len());
-        Ok((Log(Rc::new(Files { folder, appender, number: Cell::new(number), is_compacting: Cell::new(false) })), torn))
+        Ok((Log(Rc::new(Files { folder, _lock, appender, number: Cell::new(number), is_compacting: Cell::new(false) })), torn))
     }
 
     /// Appends a record of these parts. It is written behind this run.

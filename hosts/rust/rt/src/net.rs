@@ -158,7 +158,7 @@ fn listen_at(address: SocketAddr, is_shared: bool) -> io::Result<Socket> {
 ///     let mut text = String::new();
 ///     client.read_to_string(&mut text).await?;
 ///     assert_eq!(text, "from the other core");
-///     served.await.map_err(io::Error::other)?
+///     served.await?
 /// })?;
 /// # Ok::<(), fairexec_rt::Error>(())
 /// ```

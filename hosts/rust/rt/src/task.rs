@@ -61,6 +61,12 @@ impl fmt::Display for JoinError {
 
 impl std::error::Error for JoinError {}
 
+impl From<JoinError> for std::io::Error {
+    fn from(error: JoinError) -> std::io::Error {
+        std::io::Error::other(error)
+    }
+}
+
 /// What a task comes to. The task runs on if this is dropped.
 ///
 /// ```

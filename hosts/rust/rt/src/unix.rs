@@ -28,7 +28,7 @@ use std::task::{Context, Poll};
 ///     UnixStream::connect(&path).await?.read_to_string(&mut text).await?;
 ///     assert_eq!(text, "by a path");
 ///     remove_file(path)?;
-///     accepts.await.map_err(io::Error::other)?
+///     accepts.await?
 /// })?;
 /// # Ok::<(), fairexec_rt::Error>(())
 /// ```
@@ -101,7 +101,7 @@ impl UnixListener {
 ///     let mut text = String::new();
 ///     ours.read_to_string(&mut text).await?;
 ///     assert_eq!(text, "42");
-///     sends.await.map_err(io::Error::other)?
+///     sends.await?
 /// })?;
 /// # Ok::<(), fairexec_rt::Error>(())
 /// ```

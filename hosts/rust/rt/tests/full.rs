@@ -32,6 +32,7 @@ fn a_write_that_fails_is_told_to_all_who_wait() {
             log.append(&[&[3; 10]]);
             assert!(log.safe().await.is_err());
             assert!(log.sync().await.is_err());
+            drop(log);
             let mut records = Vec::new();
             let (log, torn) = Log::open(Queue::FIRST, &folder, Fsync::Always, |it| records.push(it.to_vec())).await.unwrap();
             assert_eq!((records, torn > 0, log.len()), (vec![vec![1; 1000]], true, 1008));

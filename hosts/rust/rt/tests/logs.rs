@@ -54,6 +54,7 @@ fn a_torn_tail_is_cut_off_at_each_byte() {
             let (log, _) = Log::open(Queue::FIRST, &torn, Fsync::Never, |_| {}).await.unwrap();
             log.append(&[b"be", b"hind"]);
             log.sync().await.unwrap();
+            drop(log);
             wanted.push(b"behind".to_vec());
             assert_eq!(records(&torn).await, (wanted, 0));
         }
@@ -66,6 +67,7 @@ fn a_record_that_changed_is_no_record() {
         let (log, _) = Log::open(Queue::FIRST, &folder, Fsync::Always, |_| {}).await.unwrap();
         (0..9).for_each(|it| log.append(&[&record(it)]));
         log.safe().await.unwrap();
+        drop(log);
         let mut bytes = std::fs::read(folder.join("1")).unwrap();
         let at = 8 * 5 + (0..5).map(|it| record(it).len()).sum::<usize>();
         bytes[at + 10] ^= 1;
@@ -96,6 +98,7 @@ fn long_records_and_many_who_wait() {
         for it in tasks {
             it.await.unwrap();
         }
+        drop(log);
         let (all, torn) = records(&folder).await;
         assert_eq!((all.len(), torn), (1000, 0));
         let parts: Vec<u8> = all.iter().filter(|it| it[..8] == 7_u64.to_le_bytes()).map(|it| *it.last().unwrap()).collect();
@@ -181,10 +184,10 @@ fn a_compaction_changes_nothing_of_what_a_log_says() {
         is_paused.set(false);
         changes.await.unwrap();
         log.safe().await.unwrap();
-        assert_eq!(numbers(&folder).await, *wanted.borrow());
+        assert_eq!(numbers_of_copy(&folder).await, *wanted.borrow());
         compact(&log, &wanted, false).await;
         assert!(log.len() <= 256 * 10, "{}", log.len());
-        assert_eq!(numbers(&folder).await, *wanted.borrow());
+        assert_eq!(numbers_of_copy(&folder).await, *wanted.borrow());
     });
 }
 
@@ -224,4 +227,17 @@ fn what_nobody_waits_for_is_there_behind_a_stop() {
         told.unwrap();
         std::fs::remove_dir_all(folder).unwrap();
     }
+}
+
+#[test]
+fn a_folder_has_one_log() {
+    with_folder("busy", |folder| async move {
+        let (log, _) = Log::open(Queue::FIRST, &folder, Fsync::Never, |_| {}).await.unwrap();
+        log.append(&[b"kept"]);
+        let told = Log::open(Queue::FIRST, &folder, Fsync::Never, |_| unreachable!()).await.err().unwrap();
+        assert_eq!((told.kind(), told.to_string().as_str()), (std::io::ErrorKind::WouldBlock, "another log has this folder"));
+        log.sync().await.unwrap();
+        drop(log);
+        assert_eq!(records(&folder).await, (vec![b"kept".to_vec()], 0));
+    });
 }

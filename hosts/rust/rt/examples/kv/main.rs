@@ -152,7 +152,7 @@ async fn finish((parts, join): Does, out: &mut Vec<u8>) -> io::Result<()> {
     for (place, part) in parts.into_iter().enumerate() {
         let answer = match part {
             Part::Here(answer) => answer,
-            Part::There(call) => call.await.map_err(io::Error::other)?,
+            Part::There(call) => call.await?,
         };
         match (&join, answer) {
             (Join::Sum, Answer::Int(count)) => sum += count,
