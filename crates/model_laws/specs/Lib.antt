@@ -12,3 +12,7 @@ pub mod BadWorlds
 pub mod BadDesks
 pub mod BadCalls
 pub mod BadParts
+pub mod BadEntries
+pub mod BadQueues
+pub mod BadLanes
+pub mod BadTickets

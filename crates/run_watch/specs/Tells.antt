@@ -1,5 +1,6 @@
 -- When numbers are those of a journal.
-use Rattle.std.specs.Prelude.{◌≡◌, ◌↔◌, ℕ, ◌+◌, ◌<◌, ◌≤◌, Bool, true, IsTrue, List, length, Some, slice_get}
+use Rattle.std.specs.Prelude.{◌≡◌, ◌↔◌, ℕ, ◌+◌, ◌<◌, ◌≤◌, Bool, true, IsTrue, List, [], length, Some, slice_get}
+use Rattle.std.proofs.Common.{arith}
 use Rattle.base_words.specs.Charge.{InRange}
 use Rattle.base_words.specs.declared.stats.CoreStats.{CoreStats}
 use Rattle.base_words.specs.declared.stats.QueueStats.{QueueStats}
@@ -30,3 +31,7 @@ pub record Tells (terms : Terms) (notes : Journal ℕ) (row : List ℕ) : Type 0
   pub core_stands : HasAt row 0 (core_words core (created_count notes + 1) closed)
   pub queue_stands : (queue : ℕ) → queue ≤ created_count notes → queue < terms.places → HasAt row (place_of queue) (queue_words (stats_of terms.burst queue notes))
   pub shares_fit : (queue : ℕ) → queue ≤ created_count notes → queue < terms.places → InRange (stats_of terms.burst queue notes).shares
+
+-- the first queue of a core isn't told
+pub first_queue_untold : TellsQueues 1 [] [] → ⊥
+first_queue_untold tells = absurd (omega (arith, tells.count))

@@ -12,7 +12,8 @@ const MOST_INTERRUPTIONS: u32 = 1000;
 #[derive(Clone, Copy, PartialEq, Eq)]
 pub struct DeviceFault;
 
-/// Reads what comes next, at most as much as there is room for. At the end of the input it answers 0.
+/// Reads what comes next, at most as much as there is room for. At the end of the input it answers 0. After a fault nothing was read, and the
+/// room may have any bytes.
 pub fn read_some<R: Read>(source: &mut R, room: &mut [u8]) -> Result<usize, DeviceFault>
     ensures within { IfOk result (λ count. count ≤ length room.new) }
     ensures bytes { IfOk result (λ count.
