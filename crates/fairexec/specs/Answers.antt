@@ -16,7 +16,7 @@ use Rattle.text_journal.specs.JournalTexts as journals
 use Rattle.text_journal.specs.declared.fault.JournalCause.{JournalCause}
 use Rattle.text_bytes.specs.Taking.{IsPrompt, IsToldByRead}
 use Rattle.text_bytes.specs.Tries.{HasFailedSince}
-use Rattle.text_bytes.specs.declared.sink.Sink as writing
+use Rattle.text_bytes.specs.declared.sink.ByteSink as writing
 use Rattle.text_bytes.specs.declared.source.Source as reading
 use Rattle.text_words.specs.Faults.{IfEnded, IfRead, IfText, IfUnjudged, IfUnread, IfUnwritten}
 use Rattle.text_words.specs.declared.fault.Cause.{Cause}

@@ -4,7 +4,7 @@ use Rattle.clap.specs.declared.error.kind.ErrorKind.TheVariants.{DisplayHelp, Un
 use Rattle.fairexec_args.specs.declared.asked.What.{What}
 use Rattle.fairexec_args.specs.declared.asked.What.TheVariants.{Run, Threads, Audit}
 use Rattle.fairexec_script.specs.declared.fault.ThreadsFault.TheVariants.{Thread}
-use Rattle.text_bytes.specs.declared.sink.Sink as writing
+use Rattle.text_bytes.specs.declared.sink.ByteSink as writing
 use Rattle.text_journal.specs.declared.fault.JournalCause.{JournalCause}
 use Rattle.text_words.specs.declared.status.Status.{Status}
 use Rattle.text_words.specs.declared.status.Status.TheVariants as status

@@ -1,6 +1,6 @@
 -- What is read: an open file, or the input if no file is named.
 use Rattle.std.specs.Prelude.{◌≡◌, ◌⊎◌, ℕ, Bool, List, Option, None, Some, Result, Err}
-use Rattle.text_bytes.specs.declared.sink.Sink as writing
+use Rattle.text_bytes.specs.declared.sink.ByteSink as writing
 use Rattle.text_bytes.specs.declared.source.Source as reading
 use Rattle.fairexec_script.specs.declared.fault.ThreadsFault.TheVariants.{Of}
 use Rattle.text_words.specs.declared.fault.Fault.{Fault}

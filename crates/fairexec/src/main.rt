@@ -27,7 +27,7 @@ use std::io::ErrorKind;
 use std::process::ExitCode;
 use std::sync::Wait;
 use std::thread::Threads;
-use text_bytes::{Sink, Source};
+use text_bytes::{ByteSink, Source};
 use text_journal::JournalCause;
 use text_words::{Cause, CauseWords, Fault, Status};
 
@@ -62,7 +62,7 @@ where
 
 /// Does what these words ask for, the first of which is the program's name. Without a file the input is read, and what is asked for is
 /// written to the output.
-fn by_words<C: Print + Eprint, R, I: Source, S: Sink>(
+fn by_words<C: Print + Eprint, R, I: Source, S: ByteSink>(
     console: &C,
     rt: &R,
     words: &[String],
@@ -72,7 +72,7 @@ fn by_words<C: Print + Eprint, R, I: Source, S: Sink>(
 where
     R: ReadOnlyFiles + AllocGlobal + Threads + Wait + Copy + Drop + Send + 'static,
     ensures ends { EndsBy
-        (EndsFor (record { source = I.Source; file = R.File.remaining; sink = S.Sink }) (record { source_old = input.old; source_new = input.new; sink_old = output.old; sink_new = output.new }))
+        (EndsFor (record { source = I.Source; file = R.File.remaining; sink = S.ByteSink }) (record { source_old = input.old; source_new = input.new; sink_old = output.old; sink_new = output.new }))
         ((input.new ≡ input.old) × (output.new ≡ output.old))
         (fault_of our_app (map string_bytes words.now)) (asks_of what_named our_app (map string_bytes words.now)) result }
 {
@@ -83,7 +83,7 @@ where
 }
 
 /// Does what the command line asks for.
-fn done<C: Eprint, R, I: Source, S: Sink>(
+fn done<C: Eprint, R, I: Source, S: ByteSink>(
     console: &C,
     rt: &R,
     what: What,
@@ -93,7 +93,7 @@ fn done<C: Eprint, R, I: Source, S: Sink>(
 ) -> Status
 where
     R: ReadOnlyFiles + AllocGlobal + Threads + Wait + Copy + Drop + Send + 'static,
-    ensures ends { EndsFor (record { source = I.Source; file = R.File.remaining; sink = S.Sink })
+    ensures ends { EndsFor (record { source = I.Source; file = R.File.remaining; sink = S.ByteSink })
         (record { source_old = input.old; source_new = input.new; sink_old = output.old; sink_new = output.new }) (option_map (λ path. path.now) file.entry) what result }
     ensures never { what ≢ whats.Audit → result ≢ status.FaultFound }
 {
@@ -122,7 +122,7 @@ fn not_done<C: Eprint>(console: &C, why: Unasked) -> Status
 }
 
 /// Runs the script of the file, or of the input.
-fn run<R: ReadOnlyFiles + AllocGlobal, I: Source, S: Sink>(
+fn run<R: ReadOnlyFiles + AllocGlobal, I: Source, S: ByteSink>(
     rt: &R,
     journal: bool,
     stats: bool,
@@ -130,7 +130,7 @@ fn run<R: ReadOnlyFiles + AllocGlobal, I: Source, S: Sink>(
     input: &mut I,
     output: &mut S,
 ) -> Result<bool, Fault<Cause>>
-    ensures runs { Runs (record { source = I.Source; file = R.File.remaining; sink = S.Sink })
+    ensures runs { Runs (record { source = I.Source; file = R.File.remaining; sink = S.ByteSink })
         (record { source_old = input.old; source_new = input.new; sink_old = output.old; sink_new = output.new }) (option_map (λ path. path.now) file.entry) journal stats result }
     ensures done { IfOk result (λ done. done ≡ true) }
 {
@@ -144,7 +144,7 @@ fn run<R: ReadOnlyFiles + AllocGlobal, I: Source, S: Sink>(
 }
 
 /// Runs the script of the file, or of the input, on threads.
-fn threads<R, I: Source, S: Sink>(
+fn threads<R, I: Source, S: ByteSink>(
     rt: &R,
     journal: bool,
     stats: bool,
@@ -154,7 +154,7 @@ fn threads<R, I: Source, S: Sink>(
 ) -> Result<bool, ThreadsFault>
 where
     R: ReadOnlyFiles + AllocGlobal + Threads + Wait + Copy + Drop + Send + 'static,
-    ensures runs { RunsOnThreads (record { source = I.Source; file = R.File.remaining; sink = S.Sink })
+    ensures runs { RunsOnThreads (record { source = I.Source; file = R.File.remaining; sink = S.ByteSink })
         (record { source_old = input.old; source_new = input.new; sink_old = output.old; sink_new = output.new }) (option_map (λ path. path.now) file.entry) journal stats result }
     ensures sound { IfOk result (λ sound. sound ≡ true) }
 {
@@ -168,13 +168,13 @@ where
 }
 
 /// Judges the journal text of the file, or of the input.
-fn audit<R: ReadOnlyFiles + AllocGlobal, I: Source, S: Sink>(
+fn audit<R: ReadOnlyFiles + AllocGlobal, I: Source, S: ByteSink>(
     rt: &R,
     file: Option<&str>,
     input: &mut I,
     output: &mut S,
 ) -> Result<bool, Fault<JournalCause>>
-    ensures { Judges (record { source = I.Source; file = R.File.remaining; sink = S.Sink })
+    ensures { Judges (record { source = I.Source; file = R.File.remaining; sink = S.ByteSink })
         (record { source_old = input.old; source_new = input.new; sink_old = output.old; sink_new = output.new }) (option_map (λ path. path.now) file.entry) result }
 {
     match file {

@@ -12,7 +12,7 @@ ghost use Rattle.text_words.specs.Faults.{IfRead, IfText, IfUnjudged, IfUnwritte
 
 use crate::verdict::{is_sound, put_verdict, verdict_of};
 use std::alloc::Global;
-use text_bytes::{DeviceFault, Sink, Source, flush, write_all};
+use text_bytes::{ByteSink, DeviceFault, Source, flush, write_all};
 use text_journal::{JournalCause, read_journal};
 use text_words::Fault;
 
@@ -23,7 +23,7 @@ use text_words::Fault;
 /// A faulty line of the text (`Text`), a failed read (`Read`) or write (`Write`), or 1000 interrupted ones in a row, want of memory
 /// (`Memory`). Nothing is written before the whole text is read and judged. After a failed write a first part of the line may be written, and nothing
 /// is tried behind it.
-pub fn audit_text<R: Source, S: Sink>(
+pub fn audit_text<R: Source, S: ByteSink>(
     alloc: Global,
     source: &mut R,
     sink: &mut S,
@@ -51,7 +51,7 @@ pub fn audit_text<R: Source, S: Sink>(
 }
 
 /// Writes the line, and tells the writer that no more comes.
-fn write_line<S: Sink>(line: &[u8], sink: &mut S) -> Result<(), DeviceFault>
+fn write_line<S: ByteSink>(line: &[u8], sink: &mut S) -> Result<(), DeviceFault>
     ensures ok { OnOk result (Appends (S.contents sink.old) (S.contents sink.new) line.now) }
     ensures err { OnErr result (AppendsFront (S.contents sink.old) (S.contents sink.new) line.now) }
     ensures failed { OnErr result (HasFailedSince S.tries S.interrupts S.fails sink.old sink.new) }

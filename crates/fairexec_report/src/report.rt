@@ -14,7 +14,7 @@ use crate::stats::put_all_stats;
 use crate::verdict::{is_sound, put_verdict, verdict_of};
 use note_journal::Assembly;
 use std::alloc::{AllocError, Global};
-use text_bytes::{DeviceFault, Sink, flush, write_all};
+use text_bytes::{ByteSink, DeviceFault, flush, write_all};
 use text_journal::{JournalCause, write_journal};
 use text_words::Fault;
 
@@ -29,7 +29,7 @@ use text_words::Fault;
 ///
 /// Want of memory (`Memory`): nothing is written then. A failed write (`Write`): a first part of the text may be written, and nothing is
 /// tried behind it.
-pub fn write_report<C, S: Sink>(
+pub fn write_report<C, S: ByteSink>(
     alloc: Global,
     journal: bool,
     stats: bool,
@@ -88,7 +88,7 @@ fn journal_bytes(alloc: Global, journal: bool, assembly: &Assembly) -> Result<Ve
 }
 
 /// Writes three texts, one behind another. Then it tells the writer that no more comes.
-fn write_parts<S: Sink>(
+fn write_parts<S: ByteSink>(
     front: &[u8],
     middle: &[u8],
     rear: &[u8],

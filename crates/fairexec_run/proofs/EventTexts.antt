@@ -14,7 +14,7 @@ use Rattle.base_words.specs.Bursts.{has_bursts}
 use Rattle.base_words.specs.Joining.{AreJoined}
 use Rattle.model_world.specs.State.{journal_at, assembly_of}
 use Rattle.model_world.specs.Sends.{actor_of}
-use Rattle.text_words.specs.declared.reply.Ends.{Ends}
+use Rattle.text_words.specs.declared.reply.EventEnds.{EventEnds}
 use Rattle.text_words.specs.declared.reply.Quiet.{Quiet}
 use Rattle.fairexec_script.specs.Limits.{IsEventOf, IsSize, IsBurst}
 use Rattle.text_journal.specs.Pages.{AppendsFront}
@@ -42,7 +42,7 @@ same_actor (Detach name) = refl
 pub happened : (event : Event Script) (told : ScriptEvent) (old new : ScriptWorld) (answer : Reply Script) → event ≡ event_of told → Occurs event old new answer → Occurs (event_of told) old new answer
 happened event told old new answer same occurs = subst (λ one. Occurs one old new answer) same occurs
 
-notes_text : (ends : Ends) (notes : List (Note ℕ)) (quiet : Option Quiet) → 1 ≤ length notes → event_text ends notes quiet ≡ note_lines ends.actor notes
+notes_text : (ends : EventEnds) (notes : List (Note ℕ)) (quiet : Option Quiet) → 1 ≤ length notes → event_text ends notes quiet ≡ note_lines ends.actor notes
 notes_text ends [] quiet some = absurd (omega arith)
 notes_text ends (note ∷ rest) quiet some = refl
 
@@ -97,7 +97,7 @@ module _ (event : ScriptEvent) (old new : ScriptWorld) (answer : Reply Script) (
       }
 
   -- the same, in the words of a body that counts the notes before and after
-  pub notes_printed : (ends : Ends) (before after : List (Note ℕ)) (count : ℕ) (page_old page_new : List ℕ) →
+  pub notes_printed : (ends : EventEnds) (before after : List (Note ℕ)) (count : ℕ) (page_old page_new : List ℕ) →
       ends ≡ ends_of event → before ≡ journal_at ends.actor old → after ≡ journal_at ends.actor new → count ≡ length before → count < length after →
       page_new ≡ page_old ++ note_lines ends.actor (drop count (reverse after)) → (text : List ℕ) × Prints event old new text × (page_new ≡ page_old ++ text)
   notes_printed ends before after count page_old page_new ends_are before_is after_is counted more printed =
@@ -114,7 +114,7 @@ module _ (event : ScriptEvent) (old new : ScriptWorld) (answer : Reply Script) (
             ∙ ap (λ all. page_old ++ note_lines (ends_of event).actor (drop (length (journal_at (actor_of (event_of event)) old)) (reverse all))) is,
       )
 
-  pub quiet_printed : (ends : Ends) (before after : List (Note ℕ)) (count : ℕ) (quiet : Option Quiet) (page_old page_new : List ℕ) →
+  pub quiet_printed : (ends : EventEnds) (before after : List (Note ℕ)) (count : ℕ) (quiet : Option Quiet) (page_old page_new : List ℕ) →
       ends ≡ ends_of event → before ≡ journal_at ends.actor old → after ≡ journal_at ends.actor new → count ≡ length before → length after ≤ count →
       quiet ≡ quiet_of answer → page_new ≡ page_old ++ quiet_text ends quiet → (text : List ℕ) × Prints event old new text × (page_new ≡ page_old ++ text)
   quiet_printed ends before after count quiet page_old page_new ends_are before_is after_is counted none quiet_is printed =
@@ -128,7 +128,7 @@ module _ (event : ScriptEvent) (old new : ScriptWorld) (answer : Reply Script) (
 
 -- the actor of an event is there after it too
 pub still_there : (event : ScriptEvent) (old new : ScriptWorld) (answer : Reply Script) → Occurs (event_of event) old new answer → IsRoomy old.cores old.cap old.burst (most_lines - 1) old → IsEventOf old.cores event →
-    (ends : Ends) → ends ≡ ends_of event → ends.actor ≤ new.cores
+    (ends : EventEnds) → ends ≡ ends_of event → ends.actor ≤ new.cores
 still_there event old new answer occurs roomy here ends ends_are =
     let grows = event_grows (event_of event) old new answer roomy.bursts occurs in
     let cores = grows.cores in

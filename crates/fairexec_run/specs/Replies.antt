@@ -10,7 +10,7 @@ use Rattle.model_world.specs.declared.event.Reply.{Reply}
 use Rattle.model_world.specs.declared.event.Reply.TheVariants as reply
 use Rattle.fairexec_script.specs.declared.event.ScriptEvent.{ScriptEvent}
 use Rattle.fairexec_script.specs.declared.event.ScriptEvent.TheVariants.{Send, Deliver, Turn, Shut, Collect, Redeem, Detach}
-use Rattle.text_words.specs.declared.reply.Ends.{Ends}
+use Rattle.text_words.specs.declared.reply.EventEnds.{EventEnds}
 use Rattle.text_words.specs.declared.reply.Quiet.{Quiet}
 use Rattle.text_words.specs.declared.reply.Quiet.TheVariants as quiet
 
@@ -25,15 +25,15 @@ event_of (Redeem name) = event.Redeem name.from name
 event_of (Detach name) = event.Detach name.from name
 
 -- the ends of an event that names no submission
-abbrev pub ends : ℕ → ℕ → Ends
+abbrev pub ends : ℕ → ℕ → EventEnds
 ends actor other = record { actor = actor; other = other; number = 0 }
 
 -- the ends of an event that names a submission
-abbrev pub ends_named : JobId → Ends
+abbrev pub ends_named : JobId → EventEnds
 ends_named name = record { actor = name.from; other = name.to; number = name.number }
 
 -- who makes the step of an event, and who is at the other end of its link; a turn has nobody there
-abbrev pub ends_of : ScriptEvent → Ends
+abbrev pub ends_of : ScriptEvent → EventEnds
 ends_of (Send sender core order) = ends sender core
 ends_of (Deliver core sender) = ends core sender
 ends_of (Turn core) = ends core 0

@@ -27,7 +27,7 @@ use fairexec_script::limits::MOST_LINES;
 use fairexec_script::{Script, read_script};
 use model_world::{World, WorldError};
 use std::alloc::Global;
-use text_bytes::{Sink, Source};
+use text_bytes::{ByteSink, Source};
 use text_words::{Cause, Fault};
 
 /// Runs the script that the source tells, and prints each event's notes, or one line if it made none.
@@ -39,7 +39,7 @@ use text_words::{Cause, Fault};
 /// A faulty line of the script (`Text`), a failed read (`Read`) or write (`Write`), or 1000 interrupted ones in a row, want of memory
 /// (`Memory`). Nothing is printed before the whole script is judged. After a failed write or for want of memory, a beginning of what is printed may be written. Nothing
 /// is tried behind a failed write.
-pub fn run_script<R: Source, S: Sink>(
+pub fn run_script<R: Source, S: ByteSink>(
     alloc: Global,
     journal: bool,
     stats: bool,
@@ -65,7 +65,7 @@ pub fn run_script<R: Source, S: Sink>(
 }
 
 /// Runs a whole script, prints what is wanted of it, and tells the sink that no more comes.
-fn play<S: Sink>(
+fn play<S: ByteSink>(
     alloc: Global,
     journal: bool,
     stats: bool,
@@ -86,7 +86,7 @@ fn play<S: Sink>(
 }
 
 /// Prints the events, and the statistics if they are wanted.
-fn play_events<S: Sink>(
+fn play_events<S: ByteSink>(
     alloc: Global,
     stats: bool,
     script: Script,
@@ -116,7 +116,7 @@ fn play_events<S: Sink>(
 }
 
 /// Prints the journals, and the statistics if they are wanted.
-fn play_journal<S: Sink>(
+fn play_journal<S: ByteSink>(
     alloc: Global,
     stats: bool,
     script: Script,

@@ -23,7 +23,7 @@ use fairexec_script::ScriptEvent;
 use model_world::{Assembly, Event};
 use note_journal::Journal;
 use std::alloc::Global;
-use text_bytes::{Sink, flush};
+use text_bytes::{ByteSink, flush};
 use text_journal::write_journal;
 use text_words::{Cause, Fault};
 
@@ -94,7 +94,7 @@ pub(crate) fn events_of(
 }
 
 /// Prints the text of the journals.
-pub(crate) fn print_journal<S: Sink>(
+pub(crate) fn print_journal<S: ByteSink>(
     alloc: Global,
     assembly: &Assembly,
     sink: &mut S,
@@ -110,7 +110,7 @@ pub(crate) fn print_journal<S: Sink>(
 }
 
 /// Prints the page, and behind it the statistics of the cores if they are wanted. Then it tells the sink that no more comes.
-pub(crate) fn print_rear<T: HasCores, S: Sink>(
+pub(crate) fn print_rear<T: HasCores, S: ByteSink>(
     alloc: Global,
     stats: bool,
     told: &T,
@@ -132,7 +132,7 @@ pub(crate) fn print_rear<T: HasCores, S: Sink>(
 }
 
 /// Puts the statistics of all cores on the page. A full page is written to the sink at once.
-fn print_stats<T: HasCores, S: Sink>(
+fn print_stats<T: HasCores, S: ByteSink>(
     alloc: Global,
     told: &T,
     page: &mut String,
@@ -161,7 +161,7 @@ fn print_stats<T: HasCores, S: Sink>(
 }
 
 /// Puts the statistics of one core on the page, and writes the page if it is full.
-fn print_core<S: Sink>(
+fn print_core<S: ByteSink>(
     alloc: Global,
     core: CoreNo,
     cores: u8,
@@ -186,7 +186,7 @@ fn print_core<S: Sink>(
 }
 
 /// Prints the last page, and tells the sink that no more comes.
-fn print_last<S: Sink>(page: &mut String, sink: &mut S) -> Result<(), Fault<Cause>>
+fn print_last<S: ByteSink>(page: &mut String, sink: &mut S) -> Result<(), Fault<Cause>>
     ensures ok { OnOk result (Appends (S.contents sink.old) (S.contents sink.new) (string_bytes page.old)) }
     ensures err { OnErr result (AppendsFront (S.contents sink.old) (S.contents sink.new) (string_bytes page.old)) }
     ensures device { IfErr result (IfUnread ⊥) }

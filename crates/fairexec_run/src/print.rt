@@ -19,7 +19,7 @@ use base_words::ActorNo;
 use fairexec_script::ScriptEvent;
 use model_world::{Journal, World};
 use std::alloc::Global;
-use text_bytes::{Sink, write_all};
+use text_bytes::{ByteSink, write_all};
 use text_words::{Cause, Fault, NoteLine, ReplyLine};
 
 /// A world of script jobs.
@@ -33,7 +33,7 @@ pub(crate) const FULL_PAGE: usize = 16384;
 pub(crate) const LONGEST_PRINT: usize = 1024;
 
 /// Lets the events happen, one after another. A full page is written to the sink at once.
-pub(crate) fn print_events<S: Sink>(
+pub(crate) fn print_events<S: ByteSink>(
     alloc: Global,
     model: &mut Model,
     events: Vec<ScriptEvent>,
@@ -114,7 +114,7 @@ fn print_notes(
 }
 
 /// Prints the page, and empties it.
-pub(crate) fn print_page<S: Sink>(page: &mut String, sink: &mut S) -> Result<(), Fault<Cause>>
+pub(crate) fn print_page<S: ByteSink>(page: &mut String, sink: &mut S) -> Result<(), Fault<Cause>>
     ensures ok { OnOk result (Appends (S.contents sink.old) (S.contents sink.new) (string_bytes page.old)) }
     ensures empty { OnOk result (string_bytes page.new ≡ []) }
     ensures err { OnErr result (AppendsFront (S.contents sink.old) (S.contents sink.new) (string_bytes page.old)) }

@@ -10,7 +10,7 @@ use base_words::{ActorNo, JobId, Order, SendError, Ticket, TicketError};
 use fairexec_script::ScriptEvent;
 use model_world::{Event, Reply};
 use std::alloc::{AllocError, Global};
-use text_words::{Ends, Quiet};
+use text_words::{EventEnds, Quiet};
 
 /// The event of the model. A turn has no time of its own, since script jobs tell theirs.
 ///
@@ -48,7 +48,7 @@ fn order_of(alloc: Global, order: Order<ScriptJob>) -> Result<Order<BoxedScript>
 }
 
 /// The actor that makes the step of the event, and who is at the other end of its link.
-pub(crate) fn ends_of(event: &ScriptEvent) -> Ends
+pub(crate) fn ends_of(event: &ScriptEvent) -> EventEnds
     ensures { result ≡ spec.ends_of event.now }
 {
     match event {
@@ -63,10 +63,10 @@ pub(crate) fn ends_of(event: &ScriptEvent) -> Ends
 }
 
 /// The ends of an event that names no submission.
-fn ends(actor: u8, other: u8) -> Ends
+fn ends(actor: u8, other: u8) -> EventEnds
     ensures { result ≡ spec.ends actor other }
 {
-    Ends {
+    EventEnds {
         actor: ActorNo(actor),
         other,
         number: 0,
@@ -74,10 +74,10 @@ fn ends(actor: u8, other: u8) -> Ends
 }
 
 /// The ends of an event that names this submission.
-fn ends_named(name: &JobId) -> Ends
+fn ends_named(name: &JobId) -> EventEnds
     ensures { result ≡ spec.ends_named name.now }
 {
-    Ends {
+    EventEnds {
         actor: name.from,
         other: name.to.0,
         number: name.number,

@@ -19,7 +19,7 @@ use run_runtime::FinishError;
 use std::alloc::Global;
 use std::sync::Wait;
 use std::thread::Threads;
-use text_bytes::{Sink, Source};
+use text_bytes::{ByteSink, Source};
 
 /// Starts the runtime of the script, sends its orders, closes each core, and waits until all workers have ended.
 fn run_orders<H>(rt: H, alloc: Global, script: ThreadsScript) -> Result<Assembly, ThreadsFault>
@@ -54,7 +54,7 @@ where
 /// A faulty line of the script (`Text`), a failed read (`Read`) or write (`Write`), or 1000 interrupted ones in a row, want of memory
 /// (`Memory`), a thread that can't be made (`Thread`). After a failed write a first part of the text may be written, and nothing is tried behind it. Before each other fault nothing
 /// is written.
-pub fn threads_script<H, R: Source, S: Sink>(
+pub fn threads_script<H, R: Source, S: ByteSink>(
     rt: H,
     alloc: Global,
     journal: bool,

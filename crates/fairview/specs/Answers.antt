@@ -5,7 +5,7 @@ use Rattle.text_journal.specs.Drafts.{empty_draft}
 use Rattle.text_journal.specs.JournalTexts.{journals_of, judge}
 use Rattle.text_bytes.specs.Taking.{IsToldByRead}
 use Rattle.text_bytes.specs.Tries.{HasFailedSince}
-use Rattle.text_bytes.specs.declared.sink.Sink as writing
+use Rattle.text_bytes.specs.declared.sink.ByteSink as writing
 use Rattle.text_bytes.specs.declared.source.Source as reading
 use Rattle.fairview_report.specs.Faults.{IfCoreless, IfRead, IfText, IfUnshown, IfUnwritten}
 use Rattle.fairview_report.specs.Views.{IsCutShort, IsPromptly, IsViewed, LacksCore}

@@ -11,7 +11,7 @@ use Rattle.fairview_args.specs.Asks as wish
 use Rattle.fairview_report.specs.declared.fault.ViewFault.TheVariants as fault
 use Rattle.fairview_report.specs.declared.view.View.{View}
 use Rattle.fairview_report.specs.declared.view.View.TheVariants.{Polls}
-use Rattle.text_bytes.specs.declared.sink.Sink as writing
+use Rattle.text_bytes.specs.declared.sink.ByteSink as writing
 use Rattle.text_words.specs.declared.status.Status.TheVariants as status
 use Rattle.fairview.specs.Answers.{Answer, Answers, IsUnopened, ShowsOf, file_reads}
 use Rattle.fairview.specs.Ends.{EndsBy, EndsFor, EndsUnasked, status_unasked}

@@ -27,7 +27,7 @@ use fairview_report::{View, ViewFault, view_text};
 use std::io;
 use std::io::ErrorKind;
 use std::process::ExitCode;
-use text_bytes::{Sink, Source};
+use text_bytes::{ByteSink, Source};
 use text_words::Status;
 
 // Only this function has all rights of the system.
@@ -60,7 +60,7 @@ fn program<C: Print + Eprint, R: ReadOnlyFiles + AllocGlobal, I: Source>(
 
 /// Does what these words ask for, the first of which is the program's name. Without a file the input is read, and what is shown is written to
 /// the output.
-fn by_words<C: Print + Eprint, R: ReadOnlyFiles + AllocGlobal, I: Source, S: Sink>(
+fn by_words<C: Print + Eprint, R: ReadOnlyFiles + AllocGlobal, I: Source, S: ByteSink>(
     console: &C,
     rt: &R,
     words: &[String],
@@ -68,7 +68,7 @@ fn by_words<C: Print + Eprint, R: ReadOnlyFiles + AllocGlobal, I: Source, S: Sin
     output: &mut S,
 ) -> Status
     ensures ends { EndsBy
-        (ShowsOf (record { source = I.Source; file = R.File.remaining; sink = S.Sink }) (record { source_old = input.old; source_new = input.new; sink_old = output.old; sink_new = output.new }))
+        (ShowsOf (record { source = I.Source; file = R.File.remaining; sink = S.ByteSink }) (record { source_old = input.old; source_new = input.new; sink_old = output.old; sink_new = output.new }))
         ((input.new ≡ input.old) × (output.new ≡ output.old))
         (fault_of our_app (map string_bytes words.now)) (asks_of what_named our_app (map string_bytes words.now)) result }
     ensures never { result ≢ status.FaultFound }
@@ -80,7 +80,7 @@ fn by_words<C: Print + Eprint, R: ReadOnlyFiles + AllocGlobal, I: Source, S: Sin
 }
 
 /// Does what the command line asks for.
-fn done<C: Eprint, R: ReadOnlyFiles + AllocGlobal, I: Source, S: Sink>(
+fn done<C: Eprint, R: ReadOnlyFiles + AllocGlobal, I: Source, S: ByteSink>(
     console: &C,
     rt: &R,
     what: What<'_>,
@@ -89,7 +89,7 @@ fn done<C: Eprint, R: ReadOnlyFiles + AllocGlobal, I: Source, S: Sink>(
     output: &mut S,
 ) -> Status
     ensures ends { EndsFor
-        (ShowsOf (record { source = I.Source; file = R.File.remaining; sink = S.Sink }) (record { source_old = input.old; source_new = input.new; sink_old = output.old; sink_new = output.new }) (option_map (λ path. path.now) file.entry))
+        (ShowsOf (record { source = I.Source; file = R.File.remaining; sink = S.ByteSink }) (record { source_old = input.old; source_new = input.new; sink_old = output.old; sink_new = output.new }) (option_map (λ path. path.now) file.entry))
         ((input.new ≡ input.old) × (output.new ≡ output.old)) (view_asked (what_told what.entry)) result }
     ensures never { result ≢ status.FaultFound }
 {
@@ -112,14 +112,14 @@ fn not_done<C: Eprint>(console: &C, why: Unasked) -> Status
 }
 
 /// Shows what is asked for of the journal text of the file, or of the input.
-fn show<R: ReadOnlyFiles + AllocGlobal, I: Source, S: Sink>(
+fn show<R: ReadOnlyFiles + AllocGlobal, I: Source, S: ByteSink>(
     rt: &R,
     view: View,
     file: Option<&str>,
     input: &mut I,
     output: &mut S,
 ) -> Result<(), ViewFault>
-    ensures { ShowsOf (record { source = I.Source; file = R.File.remaining; sink = S.Sink })
+    ensures { ShowsOf (record { source = I.Source; file = R.File.remaining; sink = S.ByteSink })
         (record { source_old = input.old; source_new = input.new; sink_old = output.old; sink_new = output.new }) (option_map (λ path. path.now) file.entry) view result }
 {
     match file {

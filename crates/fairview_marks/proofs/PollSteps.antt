@@ -8,12 +8,12 @@ use Rattle.note_facts.specs.Told.{queue_told}
 use Rattle.note_facts.proofs.Naps.{queues_next}
 use Rattle.judge_view.specs.Clocks.{clock_of, clock_after}
 use Rattle.judge_view.proofs.ClockSteps.{clock_next}
-use Rattle.judge_view.specs.declared.clocks.Clock.{Clock}
+use Rattle.judge_view.specs.declared.clocks.CoreTime.{CoreTime}
 use Rattle.fairview_marks.specs.Bars.{KnowsPolls}
 use Rattle.fairview_marks.specs.declared.polls.Polls.{Polls}
 
 module _ {T : Type 0} where
-  pub clock_read : (old new : Clock) (note : Note T) (before : Journal T) → length before < greatest_count →
+  pub clock_read : (old new : CoreTime) (note : Note T) (before : Journal T) → length before < greatest_count →
       new ≡ clock_after note old → old ≡ clock_of before → new ≡ clock_of (note ∷ before)
   clock_read old new note before short read known = read ∙ (ap (clock_after {T = T} note) known ∙ clock_next note before short)
 

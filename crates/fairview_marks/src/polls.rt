@@ -7,7 +7,7 @@ ghost use Rattle.note_facts.specs.Names.{known};
 ghost use Rattle.fairview_marks.specs.Bars as spec;
 
 use base_words::{JobId, Note, QueueNo};
-use judge_view::{Clock, End};
+use judge_view::{CoreTime, End};
 use note_facts::told::queue_told;
 use note_facts::{NameTable, note_at};
 use note_journal::Journal;
@@ -45,7 +45,7 @@ pub fn settled(note: &Note<u64>) -> Option<(JobId, u64, End)>
 /// Of the notes that were read: the clock, and the queue of each job.
 #[derive(Drop)]
 pub struct Polls {
-    clock: Clock,
+    clock: CoreTime,
     queues: NameTable<QueueNo>,
 }
 
@@ -55,13 +55,13 @@ impl Polls {
         ensures { spec.KnowsPolls {T = ℕ} result [] }
     {
         Polls {
-            clock: Clock::new(),
+            clock: CoreTime::new(),
             queues: NameTable::new(alloc),
         }
     }
 
     /// How far the core came.
-    pub fn clock(&self) -> Clock
+    pub fn clock(&self) -> CoreTime
         ensures { result ≡ self.now.clock }
     {
         self.clock

@@ -9,7 +9,7 @@ ghost use Rattle.note_stats.specs.Tallies.{tally_of};
 ghost use Rattle.fairview_marks.specs.Leads as spec;
 
 use base_words::{Note, QueueNo};
-use judge_view::Clock;
+use judge_view::CoreTime;
 use note_facts::{Accounts, Parks};
 use note_stats::tally::{Tallies, Tally};
 use std::alloc::{AllocError, Global};
@@ -29,7 +29,7 @@ pub struct Lead {
 #[derive(Drop)]
 pub struct Standing {
     burst: u8,
-    clock: Clock,
+    clock: CoreTime,
     parks: Parks,
     accounts: Accounts,
     tallies: Tallies,
@@ -42,7 +42,7 @@ impl Standing {
     {
         Standing {
             burst,
-            clock: Clock::new(),
+            clock: CoreTime::new(),
             parks: Parks::new(alloc),
             accounts: Accounts::new(),
             tallies: Tallies::new(),

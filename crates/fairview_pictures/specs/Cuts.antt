@@ -2,7 +2,7 @@
 use Rattle.std.specs.Prelude.{ℕ, ◌-◌, ◌^◌, ◌==◌, ◌&&◌, nat_lt, nat_le, if◌then◌else◌, Bool, true, Option, Some, None, [], ◌∷◌}
 use Rattle.base_words.specs.Journal.{Journal}
 use Rattle.judge_view.specs.Clocks.{clock_of}
-use Rattle.judge_view.specs.declared.clocks.Clock.{Clock}
+use Rattle.judge_view.specs.declared.clocks.CoreTime.{CoreTime}
 use Rattle.fairview_pictures.specs.declared.cut.Cut.{Cut}
 
 abbrev pub whole : Cut
@@ -35,7 +35,7 @@ abbrev pub lane : Cut → ℕ → ℕ
 lane cut core = lane_at cut.core core
 
 -- the time of a clock, if this turn hasn't begun
-abbrev pub time_reached : Clock → ℕ → ℕ → ℕ
+abbrev pub time_reached : CoreTime → ℕ → ℕ → ℕ
 time_reached clock turn before = if nat_lt clock.turns turn then clock.time else before
 
 -- the processor time of a core before this turn begins: that of the notes after which it hasn't begun

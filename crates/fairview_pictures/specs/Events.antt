@@ -5,7 +5,7 @@ use Rattle.text_words.specs.Notes.{name_text}
 use Rattle.judge_view.specs.Ends.{is_done}
 use Rattle.fairview_marks.specs.declared.polls.Bar.{Bar}
 use Rattle.fairview_marks.specs.Escapes.{json_text}
-use Rattle.fairview_pictures.specs.declared.parts.Place.{Place}
+use Rattle.fairview_pictures.specs.declared.parts.TrackPlace.{TrackPlace}
 use Rattle.fairview_pictures.specs.declared.parts.Step.{Step}
 use Rattle.fairview_pictures.specs.declared.parts.Step.TheVariants.{Sent, Took, Done, Redeemed}
 
@@ -26,7 +26,7 @@ abbrev pub micros : ℕ → List ℕ
 micros time = decimal (time / 1000) ++ (codes "." ++ (decimal (time / 100 % 10) ++ (decimal (time / 10 % 10) ++ decimal (time % 10))))
 
 -- where an event stands: the actor, the track, and the time
-abbrev pub place_text : Place → List ℕ
+abbrev pub place_text : TrackPlace → List ℕ
 place_text place = codes "\"pid\":" ++ (decimal place.actor ++ (codes ",\"tid\":" ++ (decimal place.track ++ (codes ",\"ts\":" ++ micros place.time))))
 
 -- the name of a submission inside a string
@@ -34,11 +34,11 @@ abbrev pub name_inside : JobId → List ℕ
 name_inside name = json_text (name_text name)
 
 -- the first part of a poll's event
-abbrev pub poll_head : JobId → Place → List ℕ
+abbrev pub poll_head : JobId → TrackPlace → List ℕ
 poll_head name place = codes ",\n{\"name\":\"" ++ (name_inside name ++ (codes "\",\"cat\":\"poll\",\"ph\":\"X\"," ++ place_text place))
 
 -- a bar, on the track of its queue, where the clock of its core starts at this time
-abbrev pub poll_place : ℕ → ℕ → Bar → Place
+abbrev pub poll_place : ℕ → ℕ → Bar → TrackPlace
 poll_place actor start bar = record { actor = actor; track = track_of bar.queue; time = min (start + bar.start) (2 ^ 128 - 1) }
 
 -- the last part of a poll's event
@@ -62,12 +62,12 @@ step_letter Done = codes "t"
 step_letter Redeemed = codes "f"
 
 -- a note of a submission
-abbrev pub mark_event : Step → JobId → Place → List ℕ
+abbrev pub mark_event : Step → JobId → TrackPlace → List ℕ
 mark_event step name place =
     codes ",\n{\"name\":\"" ++ (step_word step ++ (codes " " ++ (name_inside name ++ (codes "\",\"cat\":\"note\",\"ph\":\"X\"," ++ (place_text place ++ codes ",\"dur\":0.001}")))))
 
 -- a point of the arrow that follows a submission
-abbrev pub flow_event : Step → JobId → Place → List ℕ
+abbrev pub flow_event : Step → JobId → TrackPlace → List ℕ
 flow_event step name place =
     codes ",\n{\"name\":\""
     ++ (name_inside name
@@ -81,7 +81,7 @@ queue_event actor queue shares =
     ++ (codes ",\"tid\":" ++ (decimal queue ++ (codes ",\"args\":{\"name\":\"q" ++ (decimal queue ++ (codes ", " ++ (decimal shares ++ codes " shares\"}}")))))))
 
 -- a note of a submission, with a step of its arrow
-abbrev pub mark_text : Step → JobId → Place → List ℕ
+abbrev pub mark_text : Step → JobId → TrackPlace → List ℕ
 mark_text step name place = mark_event step name place ++ flow_event step name place
 
 -- a poll after which its job is done, with a step of its arrow

@@ -2,7 +2,7 @@
 use Rattle.std.specs.Prelude.{ℕ, zero, suc, ◌+◌, ◌-◌, ◌^◌, min, max, ◌==◌, if◌then◌else◌, length}
 use Rattle.base_words.specs.Assembly.{Assembly, journal_of}
 use Rattle.judge_view.specs.Clocks.{busy_time}
-use Rattle.judge_view.specs.declared.clocks.Clock.{Clock}
+use Rattle.judge_view.specs.declared.clocks.CoreTime.{CoreTime}
 use Rattle.fairview_pictures.specs.declared.times.Times.{Times}
 
 -- within its type
@@ -26,13 +26,13 @@ times_of assembly = record {
 }
 
 -- where the clock of a core stands
-abbrev pub core_time : Times → Clock → ℕ
+abbrev pub core_time : Times → CoreTime → ℕ
 core_time times clock = fitting (times.start + clock.time)
 
 -- the outside actor sends before the cores start
-abbrev pub sent_time : Times → ℕ → ℕ → Clock → ℕ
+abbrev pub sent_time : Times → ℕ → ℕ → CoreTime → ℕ
 sent_time times actor place clock = if actor == times.outside then place else core_time times clock
 
 -- and redeems behind their end
-abbrev pub redeemed_time : Times → ℕ → ℕ → Clock → ℕ
+abbrev pub redeemed_time : Times → ℕ → ℕ → CoreTime → ℕ
 redeemed_time times actor place clock = if actor == times.outside then fitting (times.end + place) else core_time times clock

@@ -9,12 +9,12 @@ use Rattle.judge_view.specs.declared.ends.End.TheVariants as ends
 use Rattle.fairview_marks.specs.Bars.{bar}
 use Rattle.fairview_pictures.specs.Events.{notes_track, poll_event, queue_event, mark_text, last_poll_text}
 use Rattle.fairview_pictures.specs.Times.{times_of, core_time, sent_time, redeemed_time}
-use Rattle.fairview_pictures.specs.declared.parts.Place.{Place}
+use Rattle.fairview_pictures.specs.declared.parts.TrackPlace.{TrackPlace}
 use Rattle.fairview_pictures.specs.declared.parts.Step.TheVariants as step
 use Rattle.fairview_pictures.specs.declared.times.Times.{Times}
 
 -- a place on the track of notes
-abbrev pub noted : ℕ → ℕ → Place
+abbrev pub noted : ℕ → ℕ → TrackPlace
 noted actor time = record { actor = actor; track = notes_track; time = time }
 
 -- the events of a note, by the notes before it

@@ -5,7 +5,7 @@ ghost use Rattle.judge_view.specs.Clocks.{clock_of};
 ghost use Rattle.fairview_pictures.specs.Cuts as spec;
 
 use base_words::CoreNo;
-use judge_view::Clock;
+use judge_view::CoreTime;
 use note_facts::note_at;
 use note_journal::Journal;
 
@@ -71,7 +71,7 @@ impl Cut {
 pub(crate) fn time_before(journal: &Journal<u64>, turn: u64) -> u128
     ensures { result ≡ spec.time_before turn journal.now.notes }
 {
-    let mut clock = Clock::new();
+    let mut clock = CoreTime::new();
     let mut time: u128 = 0;
     for place in 0..journal.len() {
         clock.add(&note_at(journal, place));
@@ -81,7 +81,7 @@ pub(crate) fn time_before(journal: &Journal<u64>, turn: u64) -> u128
 }
 
 /// The time of the clock, if this turn hasn't begun.
-fn time_reached(clock: &Clock, turn: u64, before: u128) -> u128
+fn time_reached(clock: &CoreTime, turn: u64, before: u128) -> u128
     ensures { result ≡ spec.time_reached clock.now turn before }
 {
     if clock.turns < turn {

@@ -3,7 +3,7 @@
 ghost use Rattle.std.specs.Prelude.{Some};
 ghost use Rattle.fairview_pictures.specs.Events as spec;
 
-use crate::parts::{BarPlace, Micros, Place, Step, StepLetter, Truth, poll_place};
+use crate::parts::{BarPlace, Micros, Step, StepLetter, TrackPlace, Truth, poll_place};
 use base_words::{ActorNo, JobId, QueueNo, Shares};
 use fairview_marks::{Bar, JsonName};
 use std::fmt;
@@ -14,15 +14,15 @@ pub struct PollEvent(pub ActorNo, pub u128, pub Bar);
 
 /// A note of a submission: the word of its step and its name, on the track of notes.
 #[derive(Clone, Copy)]
-pub struct MarkEvent(pub Step, pub JobId, pub Place);
+pub struct MarkEvent(pub Step, pub JobId, pub TrackPlace);
 
 /// A point of the arrow that follows a submission.
 #[derive(Clone, Copy)]
-pub struct FlowEvent(pub Step, pub JobId, pub Place);
+pub struct FlowEvent(pub Step, pub JobId, pub TrackPlace);
 
 /// A note of a submission, with a step of its arrow.
 #[derive(Clone, Copy)]
-pub struct MarkEvents(pub Step, pub JobId, pub Place);
+pub struct MarkEvents(pub Step, pub JobId, pub TrackPlace);
 
 /// A poll after which its job is done, with a step of its arrow.
 #[derive(Clone, Copy)]

@@ -7,7 +7,7 @@ ghost use Rattle.fairview_pictures.specs.Events.{poll_event, queue_event, mark_t
 ghost use Rattle.fairview_pictures.specs.Traces as spec;
 
 use crate::events::{LastPollEvents, MarkEvents, PollEvent, QueueEvent};
-use crate::parts::{NOTES, Place, Step};
+use crate::parts::{NOTES, Step, TrackPlace};
 use crate::times::Times;
 use base_words::{ActorNo, Note};
 use fairview_marks::Polls;
@@ -47,10 +47,10 @@ fn put_queue(event: QueueEvent, page: &mut String) -> Result<(), AllocError>
 }
 
 /// A place on the track of notes.
-fn noted(actor: ActorNo, time: u128) -> Place
+fn noted(actor: ActorNo, time: u128) -> TrackPlace
     ensures { result ≡ spec.noted actor time }
 {
-    Place {
+    TrackPlace {
         actor,
         track: NOTES,
         time,

@@ -19,7 +19,7 @@ pub struct Micros(pub u128);
 
 /// The place of an event: the actor, the track, and the time in nanoseconds.
 #[derive(Clone, Copy)]
-pub struct Place {
+pub struct TrackPlace {
     pub actor: ActorNo,
     pub track: u16,
     pub time: u128,
@@ -36,10 +36,10 @@ pub fn track_of(queue: Option<QueueNo>) -> u16
 }
 
 /// The place of the bar of a poll, if the clock of its core starts at this time.
-pub fn poll_place(actor: ActorNo, start: u128, bar: Bar) -> Place
+pub fn poll_place(actor: ActorNo, start: u128, bar: Bar) -> TrackPlace
     ensures { result ≡ spec.poll_place actor start bar }
 {
-    Place {
+    TrackPlace {
         actor,
         track: track_of(bar.queue),
         time: start.saturating_add(bar.start),
@@ -126,7 +126,7 @@ impl fmt::Display for Micros {
     }
 }
 
-impl fmt::Display for Place {
+impl fmt::Display for TrackPlace {
     ghost output = { λ place. Some (spec.place_text place) };
 
     fn fmt<W: fmt::Write>(&self, f: &mut fmt::Formatter<W>) -> fmt::Result {

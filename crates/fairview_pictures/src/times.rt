@@ -7,7 +7,7 @@ ghost use Rattle.judge_view.specs.Clocks.{clock_of, busy_time};
 ghost use Rattle.fairview_pictures.specs.Times as spec;
 
 use base_words::ActorNo;
-use judge_view::Clock;
+use judge_view::CoreTime;
 use note_facts::note_at;
 use note_journal::{Assembly, Journal};
 
@@ -24,7 +24,7 @@ pub struct Times {
 fn busy_time(journal: &Journal<u64>) -> u128
     ensures { result ≡ busy_time journal.now.notes }
 {
-    let mut clock = Clock::new();
+    let mut clock = CoreTime::new();
     for place in 0..journal.len() {
         clock.add(&note_at(journal, place));
     }
@@ -57,14 +57,14 @@ impl Times {
     }
 
     /// The time at which the clock of a core stands.
-    pub fn core_time(&self, clock: &Clock) -> u128
+    pub fn core_time(&self, clock: &CoreTime) -> u128
         ensures { result ≡ spec.core_time self.now clock.now }
     {
         self.start.saturating_add(clock.time)
     }
 
     /// The time at which an actor sends, at this place of its journal and this clock.
-    pub fn sent_time(&self, actor: ActorNo, place: usize, clock: &Clock) -> u128
+    pub fn sent_time(&self, actor: ActorNo, place: usize, clock: &CoreTime) -> u128
         ensures { result ≡ spec.sent_time self.now actor place clock.now }
     {
         if actor == self.outside {
@@ -75,7 +75,7 @@ impl Times {
     }
 
     /// The time at which an actor redeems.
-    pub fn redeemed_time(&self, actor: ActorNo, place: usize, clock: &Clock) -> u128
+    pub fn redeemed_time(&self, actor: ActorNo, place: usize, clock: &CoreTime) -> u128
         ensures { result ≡ spec.redeemed_time self.now actor place clock.now }
     {
         if actor == self.outside {

@@ -4,7 +4,7 @@ use Rattle.base_words.specs.declared.names.JobId.{JobId}
 use Rattle.base_words.specs.Assembly.{Assembly}
 use Rattle.text_words.specs.Notes.{name_text, note_text}
 use Rattle.judge_view.specs.Stories.{story, teller}
-use Rattle.judge_view.specs.declared.clocks.Clock.{Clock}
+use Rattle.judge_view.specs.declared.clocks.CoreTime.{CoreTime}
 use Rattle.judge_view.specs.declared.stories.Chapter.{Chapter}
 use Rattle.judge_view.specs.declared.stories.Part.{Part}
 use Rattle.judge_view.specs.declared.stories.Part.TheVariants.{Sending, Serving, Fetching}
@@ -14,7 +14,7 @@ abbrev pub place_text : ℕ → Chapter → List ℕ
 place_text actor chapter = codes "actor " ++ decimal actor ++ codes " note " ++ decimal chapter.place
 
 -- the clock of a chapter, and how far it went since an earlier one
-abbrev pub clock_text : Clock → Clock → List ℕ
+abbrev pub clock_text : CoreTime → CoreTime → List ℕ
 clock_text from to =
     codes "turn " ++ decimal to.turns ++ codes " +" ++ decimal (to.turns - from.turns) ++ codes " at " ++ decimal to.time ++ codes " +"
     ++ decimal (to.time - from.time) ++ codes " ns"

@@ -4,7 +4,7 @@ ghost use Rattle.std.specs.Prelude.{Some};
 ghost use Rattle.fairview_report.specs.StoryTexts as spec;
 
 use base_words::ActorNo;
-use judge_view::{Chapter, Clock};
+use judge_view::{Chapter, CoreTime};
 use std::fmt;
 use text_words::note::NoteText;
 
@@ -18,7 +18,7 @@ struct PlaceText(ActorNo, Chapter);
 
 /// A clock, and how far it went since an earlier one.
 #[derive(Clone, Copy)]
-struct ClockText(Clock, Clock);
+struct ClockText(CoreTime, CoreTime);
 
 impl fmt::Display for PlaceText {
     ghost output = { λ text. Some (spec.place_text text.0 text.1) };

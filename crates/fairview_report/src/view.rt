@@ -16,7 +16,7 @@ use crate::share::Form;
 use base_words::JobId;
 use fairview_pictures::Cut;
 use std::alloc::Global;
-use text_bytes::{DeviceFault, Sink, Source, flush, write_all};
+use text_bytes::{ByteSink, DeviceFault, Source, flush, write_all};
 
 /// What is asked for of journals.
 #[derive(Clone, Copy)]
@@ -44,7 +44,7 @@ pub enum View {
 /// A faulty line of the text (`Text`), a core that is asked for and isn't there (`Core`), a failed read (`Read`) or write (`Write`), or
 /// 1000 interrupted ones in a row, want of memory (`Memory`). Nothing is written before the whole text is read and all that takes memory
 /// is made. After a failed write a first part may be written, and nothing is tried behind it.
-pub fn view_text<R: Source, S: Sink>(
+pub fn view_text<R: Source, S: ByteSink>(
     alloc: Global,
     view: View,
     source: &mut R,
@@ -73,7 +73,7 @@ pub fn view_text<R: Source, S: Sink>(
 }
 
 /// Writes all of the bytes, and tells the writer that no more comes.
-fn write_out<S: Sink>(bytes: &[u8], sink: &mut S) -> Result<(), DeviceFault>
+fn write_out<S: ByteSink>(bytes: &[u8], sink: &mut S) -> Result<(), DeviceFault>
     ensures ok { OnOk result (Appends (S.contents sink.old) (S.contents sink.new) bytes.now) }
     ensures err { OnErr result (AppendsFront (S.contents sink.old) (S.contents sink.new) bytes.now) }
     ensures failed { OnErr result (HasFailedSince S.tries S.interrupts S.fails sink.old sink.new) }

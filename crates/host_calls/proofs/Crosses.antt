@@ -23,8 +23,8 @@ use Rattle.host_core.specs.contracts.job.HostJob.{the_row as job}
 use Rattle.host_core.specs.contracts.job.HostJobTask.TheImpl.{ghosts as task}
 use Rattle.host_core.specs.contracts.hosted.Hosted.{the_row as hosted}
 use Rattle.host_house.specs.contracts.outside.Outside.{the_row as outside}
-use Rattle.host_text.specs.contracts.ended.Ended.{the_row as ended}
-use Rattle.host_calls.specs.contracts.house.House.{the_row as house}
+use Rattle.host_text.specs.contracts.ended.EndedHouse.{the_row as ended}
+use Rattle.host_calls.specs.contracts.house.KeptHouse.{the_row as house}
 use Rattle.host_calls.specs.contracts.member.Member.{the_row as member}
 
 job_send : IsSend job

@@ -22,7 +22,7 @@ pub(crate) const CONFIG_SIZE: u32 = 20;
 
 /// The cores that nobody took yet, by their numbers, the outside actor, if nobody took it, and the journals of the actors that ended.
 #[derive(Drop)]
-pub struct House {
+pub struct KeptHouse {
     pub(crate) cores: u8,
     pub(crate) cap: u16,
     pub(crate) burst: u8,
@@ -33,7 +33,7 @@ pub struct House {
     pub(crate) parted: bool,
 }
 
-impl Model for House {
+impl Model for KeptHouse {
     ghost use Rattle.host_calls.specs.Kept.{IsWaiting, KeptView};
 
     ghost Value = { KeptView };

@@ -7,16 +7,16 @@ ghost use Rattle.host_calls.specs.Ending.{Awaits, HasEndedSeat, HasPassed, IsJou
 ghost use Rattle.host_calls.specs.Houses.{IsKeptOf, OpensKept, TakesCore, TakesNoCore, TakesNone, TakesOut, core_in, outside_in};
 
 use crate::code::Code;
-use crate::house::{CONFIG_SIZE, Config, House};
+use crate::house::{CONFIG_SIZE, Config, KeptHouse};
 use crate::links::drained;
 use crate::member::Member;
 use host_core::Hosted;
 use host_house::{OpenError, Outside, open_house};
-use host_text::Ended;
+use host_text::EndedHouse;
 use note_journal::{Assembly, Journal};
 use std::alloc::Global;
 
-impl House {
+impl KeptHouse {
     /// Opens a house.
     ///
     /// # Errors
@@ -151,7 +151,7 @@ impl House {
     }
 
     /// Gives the journals up, if all were handed in.
-    pub(crate) fn whole(&mut self, alloc: Global) -> Option<Ended>
+    pub(crate) fn whole(&mut self, alloc: Global) -> Option<EndedHouse>
         ensures whole { IfSome result (λ ended. IsWhole self.old ended) }
         ensures missing { result ≡ None → (self.new ≡ self.old) × (length self.old.journals ≢ self.old.cores + 1) }
     {
@@ -160,7 +160,7 @@ impl House {
         }
         let journals = std::mem::replace(&mut self.journals, Vec::new(alloc));
         let assembly = Assembly::of_burst(self.cores, self.cap, self.burst, journals);
-        Some(Ended::of(assembly, self.parted))
+        Some(EndedHouse::of(assembly, self.parted))
     }
 }
 
@@ -226,19 +226,19 @@ fn keep(
     cores: u8,
     cap: u16,
     burst: u8,
-    house: host_house::House,
-) -> Result<House, Code>
+    house: host_house::HostedHouse,
+) -> Result<KeptHouse, Code>
     requires { length house.cores ≡ cores }
     ensures { IsKeptOf cores cap burst house result }
 {
     let Ok(journals) = Vec::with_capacity(alloc, usize::from(cores) + 1) else {
         return Err(Code::NoMemory);
     };
-    let host_house::House {
+    let host_house::HostedHouse {
         cores: left,
         outside,
     } = house;
-    Ok(House {
+    Ok(KeptHouse {
         cores,
         cap,
         burst,

@@ -7,24 +7,24 @@ ghost use Rattle.host_calls.specs.Orders.{mode_of_number};
 ghost use Rattle.host_calls.specs.Turns.{NextsTold, SettlesTold, StepsTold, step_of};
 
 use crate::code::Code;
-use crate::house::House;
+use crate::house::KeptHouse;
 use crate::links::{close, deliver, drained, shut};
 use crate::turns::{TurnTold, next, settle, settle_and_next};
 use host_core::Hosted;
 use host_house::Outside;
-use host_text::Ended;
+use host_text::EndedHouse;
 
 /// The house, an actor of it, or what it left behind.
 #[derive(Drop)]
 pub enum Member {
     /// The seats that nobody took yet, and the journals that were handed in.
-    House(House),
+    House(KeptHouse),
     /// A core.
     Core(Hosted),
     /// The outside actor.
     Outside(Outside),
     /// The journals of all actors.
-    Ended(Ended),
+    Ended(EndedHouse),
 }
 
 impl Member {

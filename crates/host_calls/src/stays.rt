@@ -8,7 +8,7 @@ ghost use Rattle.host_calls.specs.Members.{IsHouse};
 
 use crate::code::Code;
 use crate::member::Member;
-use host_text::Ended;
+use host_text::EndedHouse;
 use std::alloc::Global;
 
 impl Member {
@@ -59,7 +59,7 @@ impl Member {
     }
 
     /// Becomes these journals, if there are any.
-    fn become_ended(&mut self, whole: Option<Ended>)
+    fn become_ended(&mut self, whole: Option<EndedHouse>)
         ensures ended { IfSome whole (λ ended. self.new ≡ ItsEnded ended) }
         ensures same { whole ≡ None → self.new ≡ self.old }
     {
@@ -69,7 +69,7 @@ impl Member {
     }
 
     /// Becomes these journals.
-    fn put(&mut self, ended: Ended)
+    fn put(&mut self, ended: EndedHouse)
         ensures { self.new ≡ ItsEnded ended }
     {
         *self = Member::Ended(ended);

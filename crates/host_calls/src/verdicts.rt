@@ -5,7 +5,7 @@ ghost use Rattle.host_calls.specs.Verdicts.{AuditsTold, JudgesTold, ReadsTold, W
 
 use crate::code::Code;
 use crate::member::Member;
-use host_text::{Ended, JudgeError, TextError};
+use host_text::{EndedHouse, JudgeError, TextError};
 use judge_audit::Verdict;
 use std::alloc::Global;
 
@@ -60,7 +60,7 @@ fn waits(verdict: &VerdictTold) -> Code
 }
 
 /// Audits journals, and tells the verdict.
-fn judge(alloc: Global, ended: &Ended, verdict: &mut VerdictTold) -> Code
+fn judge(alloc: Global, ended: &EndedHouse, verdict: &mut VerdictTold) -> Code
     ensures { JudgesTold ended.now verdict.old result verdict.new }
 {
     if verdict.size != VERDICT_SIZE {

@@ -14,12 +14,12 @@ use std::marker::Model;
 
 /// The cores of a house by their numbers, and the outside actor. Each may go to a thread of its own.
 #[derive(Drop)]
-pub struct House {
+pub struct HostedHouse {
     pub cores: Vec<Hosted>,
     pub outside: Outside,
 }
 
-impl Model for House {
+impl Model for HostedHouse {
     ghost use Rattle.host_house.specs.Houses.{HouseView};
 
     ghost Value = { HouseView };
@@ -75,7 +75,7 @@ fn open_within(
     cap: u16,
     burst: u8,
     room: u32,
-) -> Result<House, AllocError>
+) -> Result<HostedHouse, AllocError>
     ensures { IfOk result (IsOpened cores cap burst room) }
 {
     let Ok(mut all) = open_all::<HostJob>(alloc, cores, cap) else {
@@ -86,7 +86,7 @@ fn open_within(
     };
     let outside = Outside::open(alloc, last, cores, cap, burst, room)?;
     let cores = open_cores(alloc, all, cores, cap, burst, room)?;
-    Ok(House { cores, outside })
+    Ok(HostedHouse { cores, outside })
 }
 
 /// Opens a house: so many cores, each with queue 0 alone, so many places for submissions on each link, turns of so many polls, and journals with
@@ -102,7 +102,7 @@ pub fn open_house(
     cap: u16,
     burst: u8,
     room: u32,
-) -> Result<House, OpenError>
+) -> Result<HostedHouse, OpenError>
     ensures { OpensHouse cores cap burst room result }
 {
     if !are_good(cores, cap, burst, room) {

@@ -13,13 +13,13 @@ use text_journal::write_journal;
 
 /// The journals, whether they lack notes that were passed on, and their text once it was asked for.
 #[derive(Drop)]
-pub struct Ended {
+pub struct EndedHouse {
     assembly: Assembly,
     parted: bool,
     text: Option<Vec<u8>>,
 }
 
-impl Model for Ended {
+impl Model for EndedHouse {
     ghost use Rattle.host_text.specs.Ended.{EndedView};
 
     ghost Value = { EndedView };
@@ -50,12 +50,12 @@ pub enum TextError {
     Memory,
 }
 
-impl Ended {
+impl EndedHouse {
     /// These journals, whose text nobody asked for yet. If they are parted, notes of them were passed on.
     pub fn of(assembly: Assembly, parted: bool) -> Self
         ensures { result ≡ ended_of assembly parted }
     {
-        Ended {
+        EndedHouse {
             assembly,
             parted,
             text: None,

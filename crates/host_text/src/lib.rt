@@ -7,5 +7,5 @@ pub mod ended;
 pub mod laws;
 pub mod part;
 
-pub use ended::{Ended, JudgeError, TextError};
+pub use ended::{EndedHouse, JudgeError, TextError};
 pub use part::{Form, PassError, Piece, copy_kept, copy_piece};

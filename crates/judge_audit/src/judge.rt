@@ -11,7 +11,9 @@ ghost use Rattle.judge_audit.specs.Links.{KnowsOrders, KnowsOutcomes};
 
 use crate::histories::histories_of;
 use crate::links::{orders_sent, outcomes_given};
-use crate::places::{Place, closes_place, order_place, outcomes_place, picks_place, starts_place};
+use crate::places::{
+    FaultPlace, closes_place, order_place, outcomes_place, picks_place, starts_place,
+};
 use base_words::{ActorNo, Order, OutcomeNote};
 use note_facts::{History, NameTable};
 use note_journal::Assembly;
@@ -86,7 +88,7 @@ fn verdict_of(alloc: Global, assembly: &Assembly) -> Result<Verdict, AllocError>
 }
 
 /// The fault of this rule at this place.
-fn fault(place: &Place, rule: u8) -> Verdict
+fn fault(place: &FaultPlace, rule: u8) -> Verdict
     ensures { result ≡ Fault place.now.actor place.now.line rule }
 {
     Verdict::Fault {

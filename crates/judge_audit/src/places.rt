@@ -26,7 +26,7 @@ use note_journal::Assembly;
 
 /// A line of an actor's journal, from 1, or 0 if no single note is at fault.
 #[derive(Clone, Copy)]
-pub(crate) struct Place {
+pub(crate) struct FaultPlace {
     pub actor: ActorNo,
     pub line: usize,
 }
@@ -51,7 +51,7 @@ pub(crate) fn starts_place(
     orders: &[NameTable<Order<()>>],
     histories: &[History],
     assembly: &Assembly,
-) -> Option<Place>
+) -> Option<FaultPlace>
     requires few { assembly.now.cores ≤ most_cores }
     requires orders { KnowsOrders orders.now assembly.now }
     requires histories { AreHistories histories.now assembly.now (assembly.now.cores + 1) }
@@ -62,7 +62,7 @@ pub(crate) fn starts_place(
         let journal = assembly.journal(ActorNo(actor));
         let history = history_of(histories, actor);
         if let Some(line) = starts_fault(orders, history, journal) {
-            return Some(Place {
+            return Some(FaultPlace {
                 actor: ActorNo(actor),
                 line,
             });
@@ -138,7 +138,10 @@ fn order_line(orders: &[NameTable<Order<()>>], assembly: &Assembly, actor: u8) -
 }
 
 /// The first place at which the second rule is broken.
-pub(crate) fn order_place(orders: &[NameTable<Order<()>>], assembly: &Assembly) -> Option<Place>
+pub(crate) fn order_place(
+    orders: &[NameTable<Order<()>>],
+    assembly: &Assembly,
+) -> Option<FaultPlace>
     requires few { assembly.now.cores ≤ most_cores }
     requires orders { KnowsOrders orders.now assembly.now }
     requires spelled { IsSpelled assembly.now }
@@ -148,7 +151,7 @@ pub(crate) fn order_place(orders: &[NameTable<Order<()>>], assembly: &Assembly) 
 {
     for actor in 0..assembly.cores() + 1 {
         if let Some(line) = order_line(orders, assembly, actor) {
-            return Some(Place {
+            return Some(FaultPlace {
                 actor: ActorNo(actor),
                 line,
             });
@@ -158,13 +161,13 @@ pub(crate) fn order_place(orders: &[NameTable<Order<()>>], assembly: &Assembly) 
 }
 
 /// The first place at which the third rule is broken.
-pub(crate) fn closes_place(assembly: &Assembly) -> Option<Place>
+pub(crate) fn closes_place(assembly: &Assembly) -> Option<FaultPlace>
     ensures kept { result ≡ None → ClosesAreSound assembly.now }
     ensures named { IfSome result (λ place. IsFirstPlace assembly.now.cores (ClosesOf assembly.now) (ClosesFault assembly.now) place.actor place.line) }
 {
     for core in 0..assembly.cores() {
         if let Some(line) = closes_fault(assembly, CoreNo(core)) {
-            return Some(Place {
+            return Some(FaultPlace {
                 actor: ActorNo(core),
                 line,
             });
@@ -218,7 +221,7 @@ pub(crate) fn outcomes_place(
     outcomes: &[NameTable<OutcomeNote<u64>>],
     histories: &[History],
     assembly: &Assembly,
-) -> Option<Place>
+) -> Option<FaultPlace>
     requires few { assembly.now.cores ≤ most_cores }
     requires orders { KnowsOrders orders.now assembly.now }
     requires outcomes { KnowsOutcomes outcomes.now assembly.now }
@@ -229,7 +232,7 @@ pub(crate) fn outcomes_place(
     for actor in 0..assembly.cores() + 1 {
         let history = history_of(histories, actor);
         if let Some(line) = outcomes_line(orders, outcomes, history, assembly, actor) {
-            return Some(Place {
+            return Some(FaultPlace {
                 actor: ActorNo(actor),
                 line,
             });
@@ -239,7 +242,7 @@ pub(crate) fn outcomes_place(
 }
 
 /// The first place at which the fifth rule is broken.
-pub(crate) fn picks_place(histories: &[History], assembly: &Assembly) -> Option<Place>
+pub(crate) fn picks_place(histories: &[History], assembly: &Assembly) -> Option<FaultPlace>
     requires spelled { IsSpelled assembly.now }
     requires histories { AreHistories histories.now assembly.now (assembly.now.cores + 1) }
     ensures kept { result ≡ None → PicksAreSound assembly.now }
@@ -249,7 +252,7 @@ pub(crate) fn picks_place(histories: &[History], assembly: &Assembly) -> Option<
         let journal = assembly.journal(ActorNo(core));
         let history = history_of(histories, core);
         if let Some(line) = picks_fault(assembly.burst(), history, journal) {
-            return Some(Place {
+            return Some(FaultPlace {
                 actor: ActorNo(core),
                 line,
             });

@@ -7,7 +7,7 @@ use Rattle.std.proofs.lemmas.List.{length-drop}
 use Rattle.base_words.specs.Journal.{Journal, at_place}
 use Rattle.base_words.specs.Picks.{turns, pick_count}
 use Rattle.note_facts.specs.Accounts.{greatest_runtime, greatest_count}
-use Rattle.judge_view.specs.declared.clocks.Clock.{Clock}
+use Rattle.judge_view.specs.declared.clocks.CoreTime.{CoreTime}
 use Rattle.judge_view.specs.Clocks.{time_settled, busy_time, clock_of, clock_after}
 
 clamped_below : (time : ℕ) → clamped time < 2 ^ 50
@@ -42,7 +42,7 @@ module _ {T : Type 0} where
   busy_time-within [] = omega arith
   busy_time-within (note ∷ before) = omega (arith, busy_time-within before, time_settled-below note)
 
-  clock_is : (clock : Clock) (journal : Journal T) → clock.turns ≡ turns journal → clock.time ≡ busy_time journal → clock ≡ clock_of journal
+  clock_is : (clock : CoreTime) (journal : Journal T) → clock.turns ≡ turns journal → clock.time ≡ busy_time journal → clock ≡ clock_of journal
   clock_is clock journal turns_are time_is = λ i. record { turns = turns_are i; time = time_is i }
 
   -- no number of the clock of a short journal is beyond its type

@@ -15,7 +15,7 @@ use Rattle.note_facts.specs.Names.{known}
 use Rattle.judge_view.specs.Clocks.{clock_after}
 use Rattle.judge_view.specs.Ends.{end_of}
 use Rattle.judge_view.specs.Polls.{KnowsTurns, SettlesTold, TellsPoll, pick_told, poll_noted, poll_told, steps_of}
-use Rattle.judge_view.specs.declared.clocks.Clock.{Clock}
+use Rattle.judge_view.specs.declared.clocks.CoreTime.{CoreTime}
 use Rattle.judge_view.specs.declared.polls.Picked.{Picked}
 use Rattle.judge_view.specs.declared.polls.Poll.{Poll}
 use Rattle.judge_view.specs.declared.polls.PollWalk.{PollWalk}
@@ -105,7 +105,7 @@ module _ (old mid : PollWalk) (poll : Option Poll) (note : Note ℕ) (before : J
   pick_kept (Some told) goes = goes.picked
 
   -- all that is known after one more note
-  pub walk_next : (told : Option (JobId × ℕ)) (clock : Clock) (picked : Option Picked) → told ≡ poll_settled note → SettlesTold old mid told (end_of note) poll →
+  pub walk_next : (told : Option (JobId × ℕ)) (clock : CoreTime) (picked : Option Picked) → told ≡ poll_settled note → SettlesTold old mid told (end_of note) poll →
       clock ≡ clock_after note mid.clock → picked ≡ or_else (pick_told note) mid.picked → TellsPoll poll (record mid { clock = clock; picked = picked }) note before
   walk_next told clock picked is goes clock_is picked_is = record {
     poll = poll_next told (sym is) goes;

@@ -9,12 +9,12 @@ use Rattle.note_facts.specs.Names.{known, value_under}
 use Rattle.judge_view.specs.Clocks.{clock_of}
 use Rattle.judge_view.specs.Spans.{GoesOn, KnowsSpans, span_ended, began_at}
 use Rattle.judge_view.specs.Waits.{KnowsWalk, name_taken}
-use Rattle.judge_view.specs.declared.clocks.Clock.{Clock}
+use Rattle.judge_view.specs.declared.clocks.CoreTime.{CoreTime}
 use Rattle.judge_view.specs.declared.spans.Spans.{Spans}
 use Rattle.judge_view.specs.declared.waits.JobWalk.{JobWalk}
 
 -- a span begins under its own name, and under no other
-began_told : (name : JobId) (now : Clock) (told : Option JobId) (other : Option Clock) →
+began_told : (name : JobId) (now : CoreTime) (told : Option JobId) (other : Option CoreTime) →
     or_else (value_under name (began_at now told)) other ≡ cond (is_name name told) (Some now) other
 began_told name now None other = refl
 began_told name now (Some begun) other = by_test (same_name name begun)
@@ -24,7 +24,7 @@ began_told name now (Some begun) other = by_test (same_name name begun)
     by_test false = refl
 
 module _ {T : Type 0} where
-  pub spans_next : (begins ends : Note T → Option JobId) (old new : Spans) (now : Clock) (note : Note T) (before : Journal T) (begun ended : Option JobId) →
+  pub spans_next : (begins ends : Note T → Option JobId) (old new : Spans) (now : CoreTime) (note : Note T) (before : Journal T) (begun ended : Option JobId) →
       now ≡ clock_of (note ∷ before) → begun ≡ begins note → ended ≡ ends note →
       GoesOn old new now begun ended → KnowsSpans begins ends old before → KnowsSpans begins ends new (note ∷ before)
   spans_next begins ends old new now note before begun ended is begun_is ended_is goes knows = record {

@@ -9,7 +9,7 @@ use Rattle.note_facts.specs.Accounts.{greatest_count}
 use Rattle.judge_view.specs.Clocks.{clock_after, clock_of}
 use Rattle.judge_view.specs.Spans.{clock_when}
 use Rattle.judge_view.specs.Stories.{KnowsStory, IsRead, chapter, clock_told, name_told, no_clock}
-use Rattle.judge_view.specs.declared.clocks.Clock.{Clock}
+use Rattle.judge_view.specs.declared.clocks.CoreTime.{CoreTime}
 use Rattle.judge_view.specs.declared.stories.Part.{Part}
 use Rattle.judge_view.specs.declared.stories.StoryWalk.{StoryWalk}
 use Rattle.judge_view.proofs.ClockSteps.{clock_next}
@@ -18,7 +18,7 @@ one_fits : (count : ℕ) → count < greatest_count → min (count + 1) greatest
 one_fits count short = omega arith
 
 module _ (part : Part) (name : JobId) (old : StoryWalk) (note : Note ℕ) (before : Journal ℕ) (short : length before < greatest_count) (knows : KnowsStory part name old before) where
-  clock_is : (clock : Clock) → clock ≡ clock_after note old.clock → clock ≡ clock_of (note ∷ before)
+  clock_is : (clock : CoreTime) → clock ≡ clock_after note old.clock → clock ≡ clock_of (note ∷ before)
   clock_is clock is = is ∙ (ap (clock_after {T = ℕ} note) knows.clock ∙ clock_next note before short)
 
   place_is : (place : ℕ) → place ≡ min (old.place + 1) greatest_count → place ≡ length before + 1
@@ -38,7 +38,7 @@ module _ (part : Part) (name : JobId) (old : StoryWalk) (note : Note ℕ) (befor
       by_test false = refl
 
   -- the note is not one of the story
-  pub not_told : (told : Option JobId) (place : ℕ) (clock : Clock) → told ≡ name_told old.part note → is_name old.name told ≡ false → place ≡ min (old.place + 1) greatest_count →
+  pub not_told : (told : Option JobId) (place : ℕ) (clock : CoreTime) → told ≡ name_told old.part note → is_name old.name told ≡ false → place ≡ min (old.place + 1) greatest_count →
       clock ≡ clock_after note old.clock → IsRead part name None (record old { place = place; clock = clock }) (note ∷ before)
   not_told told place clock told_is apart place_grows clock_goes =
       let test : is_name name (name_told part note) ≡ false = sym (test_is told told_is) ∙ apart in
@@ -54,7 +54,7 @@ module _ (part : Part) (name : JobId) (old : StoryWalk) (note : Note ℕ) (befor
       }
 
   -- the note is one of the story
-  pub is_told : (told : Option JobId) (place : ℕ) (clock : Clock) → told ≡ name_told old.part note → is_name old.name told ≡ true → place ≡ min (old.place + 1) greatest_count →
+  pub is_told : (told : Option JobId) (place : ℕ) (clock : CoreTime) → told ≡ name_told old.part note → is_name old.name told ≡ true → place ≡ min (old.place + 1) greatest_count →
       clock ≡ clock_after note old.clock →
       IsRead part name (Some (record { place = place; from = old.from; clock = clock; note = note })) (record old { place = place; from = clock; clock = clock }) (note ∷ before)
   is_told told place clock told_is here place_grows clock_goes =

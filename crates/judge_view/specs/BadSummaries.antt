@@ -12,7 +12,7 @@ use Rattle.note_facts.specs.Names.{Entries, known}
 use Rattle.judge_view.specs.Spans.{KnowsSpans}
 use Rattle.judge_view.specs.Waits.{AreSpans, KnowsWalk, StopsWithin, name_taken}
 use Rattle.judge_view.specs.Watches.{KnowsShares, KnowsWatches, no_watch}
-use Rattle.judge_view.specs.declared.clocks.Clock.{Clock}
+use Rattle.judge_view.specs.declared.clocks.CoreTime.{CoreTime}
 use Rattle.judge_view.specs.declared.shares.CoreShares.{CoreShares}
 use Rattle.judge_view.specs.declared.spans.Span.{Span}
 use Rattle.judge_view.specs.declared.spans.Spans.{Spans}
@@ -60,12 +60,12 @@ pub record SummariesAreRefused : Type 0 where
 pub wait_unknown : (spans : Spans) → spans.began ≡ [] → KnowsSpans {T = ℕ} name_taken name_started spans (Took (record { from = 1; to = 0; number = 1 }) 0 ∷ []) → ⊥
 wait_unknown spans none knows =
     let job : JobId = record { from = 1; to = 0; number = 1 } in
-    let nothing : known spans.began job ≡ None = ap (λ (began : Entries Clock). known began job) none in
+    let nothing : known spans.began job ≡ None = ap (λ (began : Entries CoreTime). known began job) none in
     let began = knows.began job in cc
 
 -- before the first note a turn was made, a job waited, and a queue is due something
 pub turn_of_no_note : (walk : JobWalk) → walk.clock ≡ record { turns = 1; time = 0 } → KnowsWalk walk [] → ⊥
-turn_of_no_note walk ran knows = absurd (omega (arith, ap (λ (clock : Clock). clock.turns) ran, ap (λ (clock : Clock). clock.turns) knows.clock))
+turn_of_no_note walk ran knows = absurd (omega (arith, ap (λ (clock : CoreTime). clock.turns) ran, ap (λ (clock : CoreTime). clock.turns) knows.clock))
 
 pub wait_of_no_note : (told : JobSpans) (span : Span) → told.waits.items ≡ span ∷ [] → AreSpans told [] → ⊥
 wait_of_no_note told span waits are = let none = are.waits in cc
@@ -74,9 +74,9 @@ pub due_for_no_note : (watches : Watches) → get_or watches.each 0 no_watch ≡
 due_for_no_note watches due knows = absurd (omega (arith, ap (λ (watch : Watch). watch.due) due, (knows.each 0 (omega arith)).due))
 
 pub shares_of_no_note : (shares : CoreShares) → shares.clock ≡ record { turns = 1; time = 0 } → KnowsShares {T = ℕ} 1 shares [] → ⊥
-shares_of_no_note shares ran knows = absurd (omega (arith, ap (λ (clock : Clock). clock.turns) ran, ap (λ (clock : Clock). clock.turns) knows.clock))
+shares_of_no_note shares ran knows = absurd (omega (arith, ap (λ (clock : CoreTime). clock.turns) ran, ap (λ (clock : CoreTime). clock.turns) knows.clock))
 
 -- a note was refused, and the clock ran on
 pub clock_of_a_refusal : (old new : JobWalk) (note : Note ℕ) → old.clock ≡ record { turns = 1; time = 0 } → new.clock ≡ record { turns = 2; time = 0 } → StopsWithin old new note → ⊥
 clock_of_a_refusal old new note was is stops =
-    let turns = λ (clock : Clock). clock.turns in absurd (omega (arith, ap turns was, ap turns is, ap turns stops.0))
+    let turns = λ (clock : CoreTime). clock.turns in absurd (omega (arith, ap turns was, ap turns is, ap turns stops.0))

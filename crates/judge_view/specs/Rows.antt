@@ -7,7 +7,7 @@ use Rattle.judge_view.specs.Polls.{polls}
 use Rattle.judge_view.specs.Shares.{due, most_waiting}
 use Rattle.judge_view.specs.Stories.{chapters}
 use Rattle.judge_view.specs.Waits.{waits, runs}
-use Rattle.judge_view.specs.declared.clocks.Clock.{Clock}
+use Rattle.judge_view.specs.declared.clocks.CoreTime.{CoreTime}
 use Rattle.judge_view.specs.declared.ends.End.{End}
 use Rattle.judge_view.specs.declared.ends.End.TheVariants as ends
 use Rattle.judge_view.specs.declared.polls.Poll.{Poll}
@@ -35,7 +35,7 @@ row = Done (job 1) 10 7 ∷ Resume (job 1) ∷ Pick 0 30 ∷ second_poll
 abbrev pub span_row : ℕ → ℕ → ℕ → Span
 span_row number turns time = record { name = job number; turns = turns; time = time }
 
-abbrev pub clock_row : ℕ → ℕ → Clock
+abbrev pub clock_row : ℕ → ℕ → CoreTime
 clock_row turns time = record { turns = turns; time = time }
 
 -- in the second row the first job is parked after its poll

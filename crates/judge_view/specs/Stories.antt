@@ -8,7 +8,7 @@ use Rattle.base_words.specs.Journal.{Journal, with_last}
 use Rattle.base_words.specs.Names.{is_name}
 use Rattle.judge_view.specs.Clocks.{clock_of}
 use Rattle.judge_view.specs.Spans.{clock_when}
-use Rattle.judge_view.specs.declared.clocks.Clock.{Clock}
+use Rattle.judge_view.specs.declared.clocks.CoreTime.{CoreTime}
 use Rattle.judge_view.specs.declared.stories.StoryWalk.{StoryWalk}
 use Rattle.judge_view.specs.declared.stories.Chapter.{Chapter}
 use Rattle.judge_view.specs.declared.stories.Part.{Part}
@@ -54,11 +54,11 @@ teller Serving name = name.to
 teller Fetching name = name.from
 
 -- before the first note
-abbrev pub no_clock : Clock
+abbrev pub no_clock : CoreTime
 no_clock = record { turns = 0; time = 0 }
 
 -- the clock behind the newest note that names the submission in this part of its story
-abbrev pub clock_told : Part → JobId → Journal ℕ → Clock
+abbrev pub clock_told : Part → JobId → Journal ℕ → CoreTime
 clock_told part name journal = unwrap_or (clock_when (name_told part) name journal) no_clock
 
 -- a note of a story: its place in the journal, counted from 1, and the clock of its actor behind the note before it in the story and behind it

@@ -11,17 +11,17 @@ use note_journal::Journal;
 ///
 /// The time of a poll counts as for its charge: at least 1 ns, at most 2^40 - 1 ns.
 #[derive(Clone, Copy)]
-pub struct Clock {
+pub struct CoreTime {
     pub turns: u64,
     pub time: u128,
 }
 
-impl Clock {
+impl CoreTime {
     /// No note was read.
     pub fn new() -> Self
         ensures { result ≡ clock_of {T = ℕ} [] }
     {
-        Clock { turns: 0, time: 0 }
+        CoreTime { turns: 0, time: 0 }
     }
 
     /// Reads the next note. What the types can't hold is told as the greatest number.
@@ -47,10 +47,10 @@ impl Clock {
 }
 
 /// How far a core came, by its journal.
-pub fn clock_of(journal: &Journal<u64>) -> Clock
+pub fn clock_of(journal: &Journal<u64>) -> CoreTime
     ensures { result ≡ clock_of journal.now.notes }
 {
-    let mut clock = Clock::new();
+    let mut clock = CoreTime::new();
     for place in 0..journal.len() {
         let note = note_at(journal, place);
         clock.add(&note);

@@ -13,7 +13,7 @@ pub mod summaries;
 pub mod waits;
 pub mod watches;
 
-pub use clocks::{Clock, clock_of};
+pub use clocks::{CoreTime, clock_of};
 pub use ends::{End, end_of};
 pub use percentiles::Percentiles;
 pub use polls::{Picked, Poll, PollWalk, settled_polls};

@@ -5,7 +5,7 @@ ghost use Rattle.base_words.specs.Journal.{Journal as Notes, or_else, latest_tol
 ghost use Rattle.note_facts.specs.Accounts.{greatest_count};
 ghost use Rattle.judge_view.specs.Polls as spec;
 
-use crate::clocks::Clock;
+use crate::clocks::CoreTime;
 use crate::ends::{End, end_of};
 use base_words::{JobId, Note, QueueNo};
 use note_facts::told::poll_settled;
@@ -58,7 +58,7 @@ fn newer(pick: Option<Picked>, before: Option<Picked>) -> Option<Picked>
 /// Of the notes that were read: the turns, the newest pick, and how many polls of each job are settled.
 #[derive(Drop)]
 pub struct PollWalk {
-    clock: Clock,
+    clock: CoreTime,
     picked: Option<Picked>,
     steps: NameTable<u64>,
 }
@@ -69,7 +69,7 @@ impl PollWalk {
         ensures { spec.KnowsTurns result [] }
     {
         PollWalk {
-            clock: Clock::new(),
+            clock: CoreTime::new(),
             picked: None,
             steps: NameTable::new(alloc),
         }

@@ -7,7 +7,7 @@ ghost use Rattle.judge_view.specs.Clocks.{busy_time};
 ghost use Rattle.judge_view.specs.Shares as spec;
 ghost use Rattle.judge_view.specs.Watches as watches;
 
-use crate::clocks::Clock;
+use crate::clocks::CoreTime;
 use crate::watches::Watches;
 use base_words::{Note, QueueNo, QueueStats};
 use note_facts::note_at;
@@ -28,7 +28,7 @@ pub struct QueueShare {
 /// Of the notes that were read: what is told of the shares of all queues of a core.
 #[derive(Drop)]
 pub struct CoreShares {
-    clock: Clock,
+    clock: CoreTime,
     figures: Figures,
     watches: Watches,
 }
@@ -39,7 +39,7 @@ impl CoreShares {
         ensures { watches.KnowsShares {T = ℕ} burst result [] }
     {
         CoreShares {
-            clock: Clock::new(),
+            clock: CoreTime::new(),
             figures: Figures::new(burst),
             watches: Watches::new(alloc),
         }

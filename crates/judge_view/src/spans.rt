@@ -6,7 +6,7 @@ ghost use Rattle.base_words.specs.declared.note.Note as note;
 ghost use Rattle.note_facts.specs.Names.{known};
 ghost use Rattle.judge_view.specs.Spans as spec;
 
-use crate::clocks::Clock;
+use crate::clocks::CoreTime;
 use base_words::JobId;
 use note_facts::NameTable;
 use std::alloc::{AllocError, Global};
@@ -20,7 +20,7 @@ pub struct Span {
 }
 
 /// From one clock to a later one.
-fn span_between(name: JobId, from: &Clock, to: &Clock) -> Span
+fn span_between(name: JobId, from: &CoreTime, to: &CoreTime) -> Span
     ensures { result ≡ spec.span name from.now to.now }
 {
     Span {
@@ -31,7 +31,7 @@ fn span_between(name: JobId, from: &Clock, to: &Clock) -> Span
 }
 
 /// A name, with the clock at which its span begins.
-fn began_at(now: &Clock, begins: Option<JobId>) -> Option<(JobId, Clock)>
+fn began_at(now: &CoreTime, begins: Option<JobId>) -> Option<(JobId, CoreTime)>
     ensures { result ≡ spec.began_at now.now begins }
 {
     match begins {
@@ -43,7 +43,7 @@ fn began_at(now: &Clock, begins: Option<JobId>) -> Option<(JobId, Clock)>
 /// Of the notes that were read: the clock at which the span of each name begins, and the spans that ended.
 #[derive(Drop)]
 pub struct Spans {
-    began: NameTable<Clock>,
+    began: NameTable<CoreTime>,
     ended: Vec<Span>,
 }
 
@@ -61,7 +61,7 @@ impl Spans {
     /// Reads the next note, behind which this clock stands. It may end the span of a name, and begin that of a name.
     pub fn add(
         &mut self,
-        now: &Clock,
+        now: &CoreTime,
         begins: Option<JobId>,
         ends: Option<JobId>,
     ) -> Result<(), AllocError>
@@ -78,7 +78,7 @@ impl Spans {
     }
 
     /// The span that ends under a name, if there is a name and its span began.
-    fn ended_by(&self, now: &Clock, ends: Option<JobId>) -> Option<Span>
+    fn ended_by(&self, now: &CoreTime, ends: Option<JobId>) -> Option<Span>
         ensures { result ≡ spec.span_ended ends (known self.now.began) now.now }
     {
         let name = ends?;

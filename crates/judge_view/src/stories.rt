@@ -8,7 +8,7 @@ ghost use Rattle.note_facts.specs.Accounts.{greatest_count};
 ghost use Rattle.judge_view.specs.Stories as spec;
 ghost use Rattle.judge_view.specs.declared.stories.Part.{Part as Told};
 
-use crate::clocks::Clock;
+use crate::clocks::CoreTime;
 use base_words::{ActorNo, JobId, Note};
 use note_journal::same_name;
 
@@ -28,8 +28,8 @@ pub enum Part {
 #[derive(Clone, Copy)]
 pub struct Chapter {
     pub place: u64,
-    pub from: Clock,
-    pub clock: Clock,
+    pub from: CoreTime,
+    pub clock: CoreTime,
     pub note: Note<u64>,
 }
 
@@ -106,8 +106,8 @@ pub struct StoryWalk {
     part: Part,
     name: JobId,
     place: u64,
-    from: Clock,
-    clock: Clock,
+    from: CoreTime,
+    clock: CoreTime,
 }
 
 impl StoryWalk {
@@ -119,8 +119,8 @@ impl StoryWalk {
             part,
             name,
             place: 0,
-            from: Clock::new(),
-            clock: Clock::new(),
+            from: CoreTime::new(),
+            clock: CoreTime::new(),
         }
     }
 

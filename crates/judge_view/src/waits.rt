@@ -6,7 +6,7 @@ ghost use Rattle.base_words.specs.Journal.{Journal as Notes};
 ghost use Rattle.note_facts.specs.Accounts.{greatest_count};
 ghost use Rattle.judge_view.specs.Waits as spec;
 
-use crate::clocks::Clock;
+use crate::clocks::CoreTime;
 use crate::spans::{Span, Spans};
 use base_words::{JobId, Note};
 use note_facts::note_at;
@@ -46,7 +46,7 @@ fn name_finished(note: &Note<u64>) -> Option<JobId>
 /// Of the notes that were read: the clock, and the spans of both kinds.
 #[derive(Drop)]
 pub struct JobWalk {
-    clock: Clock,
+    clock: CoreTime,
     waits: Spans,
     runs: Spans,
 }
@@ -57,7 +57,7 @@ impl JobWalk {
         ensures { spec.KnowsWalk result [] }
     {
         JobWalk {
-            clock: Clock::new(),
+            clock: CoreTime::new(),
             waits: Spans::new(alloc),
             runs: Spans::new(alloc),
         }

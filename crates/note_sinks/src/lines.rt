@@ -20,7 +20,7 @@ use text_bytes::DeviceFault;
 ///
 /// A contract sees the notes that it took, the newest first, the writer, and the text that is still to be written.
 #[derive(Drop)]
-pub struct Lines<W: text_bytes::Sink> {
+pub struct Lines<W: text_bytes::ByteSink> {
     actor: ActorNo,
     outlet: Outlet<W>,
     /// A page of this many bytes is full, and is written.
@@ -34,7 +34,7 @@ pub struct Lines<W: text_bytes::Sink> {
     refused_at: History<History<Note<u64>>>,
 }
 
-impl<W: text_bytes::Sink> Model for Lines<W> {
+impl<W: text_bytes::ByteSink> Model for Lines<W> {
     ghost use Rattle.note_sinks.specs.Lines.{LinesView};
 
     ghost Value = { LinesView W };
@@ -56,7 +56,7 @@ fn lengthen(has: &mut History<Note<u64>>, notes: &[Note<u64>])
     }
 }
 
-impl<W: text_bytes::Sink> Lines<W> {
+impl<W: text_bytes::ByteSink> Lines<W> {
     /// No note was taken. The notes are those of this actor. A page of `full` bytes is full; the opening takes memory for so many.
     ///
     /// # Errors
@@ -199,7 +199,7 @@ impl<W: text_bytes::Sink> Lines<W> {
     }
 }
 
-impl<W: text_bytes::Sink + Drop> Sink for Lines<W> {
+impl<W: text_bytes::ByteSink + Drop> Sink for Lines<W> {
     ghost has = { λ lines. lines.has };
 
     ghost refused = { λ lines count. Contains lines.refused count };

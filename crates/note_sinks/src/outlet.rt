@@ -9,7 +9,7 @@ use crate::writes::write_rest;
 use base_words::{ActorNo, Note};
 use std::alloc::{AllocError, Global};
 use std::marker::Model;
-use text_bytes::{DeviceFault, Sink};
+use text_bytes::{ByteSink, DeviceFault};
 use text_words::NoteLine;
 
 /// A line has at most 128 bytes with its line feed.
@@ -141,7 +141,7 @@ impl<W> Outlet<W> {
     }
 }
 
-impl<W: Sink> Outlet<W> {
+impl<W: ByteSink> Outlet<W> {
     /// Writes all that is pending. What isn't written stays pending.
     ///
     /// # Errors

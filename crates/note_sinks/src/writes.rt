@@ -5,10 +5,10 @@ ghost use Rattle.std.specs.Io.KnownBytes.{Appends, Keeps};
 ghost use Rattle.text_bytes.specs.Tries.{HasFailed, HasFailedSince, IsNoFewer};
 ghost use Rattle.note_sinks.specs.Outlets.{Writes};
 
-use text_bytes::{DeviceFault, MOST_INTERRUPTIONS, Once, Sink};
+use text_bytes::{ByteSink, DeviceFault, MOST_INTERRUPTIONS, Once};
 
 /// Writes the first of the bytes, one at least.
-fn write_some<W: Sink>(writer: &mut W, bytes: &[u8]) -> Result<usize, DeviceFault>
+fn write_some<W: ByteSink>(writer: &mut W, bytes: &[u8]) -> Result<usize, DeviceFault>
     requires { 0 < length bytes.now }
     ensures some { IfOk result (λ count. 1 ≤ count) }
     ensures within { IfOk result (λ count. count ≤ length bytes.now) }
@@ -28,7 +28,7 @@ fn write_some<W: Sink>(writer: &mut W, bytes: &[u8]) -> Result<usize, DeviceFaul
 }
 
 /// Writes the bytes behind the first ones, which are written already. Counts those that are written, also where it fails.
-pub fn write_rest<W: Sink>(
+pub fn write_rest<W: ByteSink>(
     writer: &mut W,
     bytes: &[u8],
     written: &mut usize,

@@ -15,7 +15,7 @@ use Rattle.base_words.specs.Work.{number_if}
 use Rattle.base_words.proofs.Told.{length-with_last, length-with_last_if}
 use Rattle.note_facts.proofs.NameLookups.{same_number}
 use Rattle.note_facts.specs.Accounts.{greatest_count}
-use Rattle.note_stats.specs.declared.gates.Gate.{Gate}
+use Rattle.note_stats.specs.declared.gates.GateCount.{GateCount}
 use Rattle.note_stats.specs.declared.gates.Gates.{Gates}
 use Rattle.note_stats.specs.Gates.{gate_of, gate_after, gate_noted, open_gate, creation_count}
 use Rattle.note_stats.specs.Walks.{KnowsGates}
@@ -36,7 +36,7 @@ module _ {T : Type 0} where
         number_if-within (is_some (name_delivered sender note)),
       )
 
-  gate_is : (sender : ℕ) (note : Note T) (before : Journal T) (gate : Gate) → gate.delivered ≡ length (delivered_names sender (note ∷ before)) →
+  gate_is : (sender : ℕ) (note : Note T) (before : Journal T) (gate : GateCount) → gate.delivered ≡ length (delivered_names sender (note ∷ before)) →
       gate.count ≡ final_count sender (note ∷ before) → gate ≡ gate_of sender (note ∷ before)
   gate_is sender note before gate delivered count = λ i. record { delivered = delivered i; count = count i }
 
@@ -113,7 +113,7 @@ module _ {T : Type 0} where
       }
 
   -- the gates after a note of one gate
-  pub each_after_one : (senders : List Gate) (note : Note T) (before : Journal T) (index : ℕ) (new : Gate) → index < length senders →
+  pub each_after_one : (senders : List GateCount) (note : Note T) (before : Journal T) (index : ℕ) (new : GateCount) → index < length senders →
       length before < greatest_count → gate_noted note ≡ Some index → new ≡ gate_after {T = T} note (get_or senders index open_gate) →
       ((sender : ℕ) → get_or senders sender open_gate ≡ gate_of sender before) → (sender : ℕ) →
       get_or (set senders index new) sender open_gate ≡ gate_of sender (note ∷ before)
@@ -123,7 +123,7 @@ module _ {T : Type 0} where
       (is ∙ (ap (gate_after {T = T} note) (each index) ∙ gate_own index before short note noted)) each
 
   -- the gates after a note of none
-  pub each_after_none : (senders : List Gate) (note : Note T) (before : Journal T) → gate_noted note ≡ None →
+  pub each_after_none : (senders : List GateCount) (note : Note T) (before : Journal T) → gate_noted note ≡ None →
       ((sender : ℕ) → get_or senders sender open_gate ≡ gate_of sender before) → (sender : ℕ) →
       get_or senders sender open_gate ≡ gate_of sender (note ∷ before)
   each_after_none senders note before noted each = λ sender. each sender ∙ gate_other sender before note (ap (is_number sender) noted)

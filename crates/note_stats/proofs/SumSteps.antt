@@ -10,7 +10,7 @@ use Rattle.base_words.specs.Work.{has_work}
 use Rattle.note_facts.specs.Accounts.{greatest_count}
 use Rattle.note_facts.specs.AllAccounts.{HasNobody, IsEmpty, account_of}
 use Rattle.note_facts.proofs.AllAccounts.{has_nobody, is_empty}
-use Rattle.note_stats.specs.declared.gates.Gate.{Gate}
+use Rattle.note_stats.specs.declared.gates.GateCount.{GateCount}
 use Rattle.note_stats.specs.Gates.{open_gate}
 use Rattle.base_words.specs.Stats.{core_stats}
 use Rattle.note_stats.specs.Walks.{FiguresView, KnowsFigures, inside_below}
@@ -50,8 +50,8 @@ module _ {T : Type 0} where
     drained_known cores delivered empty = record {
       delivered_all =
           λ sender within.
-          sym (ap (λ (gate : Gate). gate.count) (knows.gates.each sender)) ∙
-          (delivered sender within ∙ ap (λ (gate : Gate). Some gate.delivered) (knows.gates.each sender));
+          sym (ap (λ (gate : GateCount). gate.count) (knows.gates.each sender)) ∙
+          (delivered sender within ∙ ap (λ (gate : GateCount). Some gate.delivered) (knows.gates.each sender));
       idle = λ queue work. true≢false (sym work ∙ (nobody queue (empty queue)).idle);
       nobody_parked = λ queue. (nobody queue (empty queue)).nobody_parked;
     }
@@ -59,8 +59,8 @@ module _ {T : Type 0} where
     pub delivered_known : (cores : ℕ) → IsDrained cores journal → (sender : ℕ) → sender ≤ cores →
         (get_or figures.gates.senders sender open_gate).count ≡ Some (get_or figures.gates.senders sender open_gate).delivered
     delivered_known cores drained sender within =
-        ap (λ (gate : Gate). gate.count) (knows.gates.each sender) ∙
-        (drained.delivered_all sender within ∙ sym (ap (λ (gate : Gate). Some gate.delivered) (knows.gates.each sender)))
+        ap (λ (gate : GateCount). gate.count) (knows.gates.each sender) ∙
+        (drained.delivered_all sender within ∙ sym (ap (λ (gate : GateCount). Some gate.delivered) (knows.gates.each sender)))
 
     pub empty_known : (cores : ℕ) → IsDrained cores journal → (queue : ℕ) → IsEmpty (account_of figures.accounts queue)
     empty_known cores drained queue =

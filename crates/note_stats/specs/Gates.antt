@@ -5,11 +5,11 @@ use Rattle.base_words.specs.declared.note.Note.TheVariants.{Took, Back, Answered
 use Rattle.base_words.specs.Closing.{final_count}
 use Rattle.base_words.specs.Filters.{delivered_names}
 use Rattle.base_words.specs.Journal.{Journal}
-use Rattle.note_stats.specs.declared.gates.Gate.{Gate}
+use Rattle.note_stats.specs.declared.gates.GateCount.{GateCount}
 use Rattle.note_stats.specs.Tallies.{one_more}
 
 -- nothing was delivered, and the gate is open
-abbrev pub open_gate : Gate
+abbrev pub open_gate : GateCount
 open_gate = record { delivered = 0; count = None }
 
 -- the actor of whose gate a note tells
@@ -21,7 +21,7 @@ gate_noted (Shut sender count) = Some sender
 gate_noted _ = None
 
 -- the gate after a note that tells of it
-abbrev pub gate_after : {T : Type 0} → Note T → Gate → Gate
+abbrev pub gate_after : {T : Type 0} → Note T → GateCount → GateCount
 gate_after (Took name queue) gate = record gate { delivered = one_more gate.delivered }
 gate_after (Back name reason) gate = record gate { delivered = one_more gate.delivered }
 gate_after (Answered name answer) gate = record gate { delivered = one_more gate.delivered }
@@ -29,7 +29,7 @@ gate_after (Shut sender count) gate = record gate { count = Some count }
 gate_after _ gate = gate
 
 -- what these notes say of an actor's gate: how much of what it sent was delivered, and its final count, if it is shut
-abbrev pub gate_of : {T : Type 0} → ℕ → Journal T → Gate
+abbrev pub gate_of : {T : Type 0} → ℕ → Journal T → GateCount
 gate_of sender journal = record { delivered = length (delivered_names sender journal); count = final_count sender journal }
 
 -- one for a creation

@@ -12,17 +12,17 @@ use base_words::{ActorNo, Note};
 
 /// Of the notes that were read: how much of what an actor sent was delivered, and the final count of its gate, if it is shut.
 #[derive(Clone, Copy)]
-pub struct Gate {
+pub struct GateCount {
     pub delivered: u64,
     pub count: Option<u64>,
 }
 
-impl Gate {
+impl GateCount {
     /// No note was read.
     pub fn new() -> Self
         ensures { result ≡ open_gate }
     {
-        Gate {
+        GateCount {
             delivered: 0,
             count: None,
         }
@@ -90,7 +90,7 @@ fn creation_count(note: &Note<u64>) -> u64
 pub struct Gates {
     pub turns: u64,
     pub created: u64,
-    pub senders: [Gate; 256],
+    pub senders: [GateCount; 256],
 }
 
 impl Gates {
@@ -101,12 +101,12 @@ impl Gates {
         Gates {
             turns: 0,
             created: 0,
-            senders: [Gate::new(); 256],
+            senders: [GateCount::new(); 256],
         }
     }
 
     /// The gate of an actor.
-    fn of(&self, sender: ActorNo) -> Gate
+    fn of(&self, sender: ActorNo) -> GateCount
         ensures { result ≡ get_or self.now.senders sender open_gate }
     {
         self.senders[sender.0 as usize]
@@ -127,7 +127,7 @@ impl Gates {
 }
 
 /// Whether the gate of each actor is shut and all behind it delivered.
-pub fn all_done(senders: &[Gate; 256], cores: u8) -> bool
+pub fn all_done(senders: &[GateCount; 256], cores: u8) -> bool
     ensures { IsTrue result ↔ ((sender : ℕ) → sender ≤ cores → (get_or senders.now sender open_gate).count ≡ Some (get_or senders.now sender open_gate).delivered) }
 {
     for sender in 0..cores as usize + 1 {

@@ -29,7 +29,7 @@ use std::thread::Threads;
 
 /// What a worker is opened with: its ends, and the clock, the gate, the sink and the shared state of its number.
 #[derive(Drop)]
-struct Seat<J: Task<Out = u64>, C: Drop, G: Drop, S: Sink> {
+struct Station<J: Task<Out = u64>, C: Drop, G: Drop, S: Sink> {
     ends: Ends<J>,
     clock: C,
     gate: G,
@@ -44,7 +44,7 @@ fn next_seat<J: Task<Out = u64>, C: Drop, G: Drop, S: Sink>(
     gates: &mut Vec<G>,
     sinks: &mut Vec<S>,
     locals: &mut Vec<J::Local>,
-) -> Seat<J, C, G, S>
+) -> Station<J, C, G, S>
     requires clocks { 0 < length clocks.old.items }
     requires gates { 0 < length gates.old.items }
     requires sinks { 0 < length sinks.old.items }
@@ -59,7 +59,7 @@ fn next_seat<J: Task<Out = u64>, C: Drop, G: Drop, S: Sink>(
     let gate = gates.remove(0);
     let sink = sinks.remove(0);
     let local = locals.remove(0);
-    Seat {
+    Station {
         ends,
         clock,
         gate,
@@ -76,7 +76,7 @@ fn deal<J: Task<Out = u64>, C: Drop, G: Drop, S: Sink>(
     gates: Vec<G>,
     sinks: Vec<S>,
     locals: Vec<J::Local>,
-) -> Result<Vec<Seat<J, C, G, S>>, AllocError>
+) -> Result<Vec<Station<J, C, G, S>>, AllocError>
     requires clocks { length clocks.items ≡ length all.items }
     requires gates { length gates.items ≡ length all.items }
     requires sinks { length sinks.items ≡ length all.items }
@@ -104,7 +104,7 @@ type Watched<J, C, G, S> = (Vec<Worker<J, C, G, S>>, Vec<Watcher>);
 fn open_seats<J: Task<Out = u64>, C: Drop, G: Drop, S: Sink>(
     alloc: Global,
     config: &Config,
-    seats: Vec<Seat<J, C, G, S>>,
+    seats: Vec<Station<J, C, G, S>>,
     bells: &Bells,
 ) -> Result<Watched<J, C, G, S>, AllocError>
     requires each { All (λ seat. AreOpening config.now.cores config.now.cap config.now.burst config.now.room config.now.queues.items seat.ends) seats.items }
@@ -116,7 +116,7 @@ fn open_seats<J: Task<Out = u64>, C: Drop, G: Drop, S: Sink>(
     let mut workers = Vec::with_capacity(alloc, seats.len())?;
     let mut watchers = Vec::with_capacity(alloc, seats.len())?;
     for seat in seats {
-        let Seat {
+        let Station {
             ends,
             clock,
             gate,

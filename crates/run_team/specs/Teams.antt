@@ -1,6 +1,6 @@
 -- Workers on threads of their own.
 use Rattle.std.specs.Prelude.{◌≡◌, ℕ, ◌≤◌, List, [], length}
-use Rattle.run_team.specs.declared.seat.Seat.{Seat}
+use Rattle.run_team.specs.declared.seat.WorkerAt.{WorkerAt}
 use Rattle.run_team.specs.declared.team.NotStarted.{NotStarted}
 use Rattle.run_team.specs.declared.team.NotStarted.TheVariants.{Memory, Thread}
 use Rattle.run_team.specs.Works.{IsLeft, Together}
@@ -8,7 +8,7 @@ use Rattle.run_team.specs.Seats.{IsSeatOf}
 
 module _ {W E : Type 0} (keeps : W → E → Type 0) where
   -- each worker has its seat, and there is room for what they give back
-  pub record IsTeam (given : List W) (seats : List (Seat W E)) (ended : List E) (room : ℕ) : Type 0 where
+  pub record IsTeam (given : List W) (seats : List (WorkerAt W E)) (ended : List E) (room : ℕ) : Type 0 where
     pub seated : Together (IsSeatOf keeps) given seats
     pub none_ended : ended ≡ []
     pub reserved : length seats ≤ room

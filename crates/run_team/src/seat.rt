@@ -27,7 +27,7 @@ pub(crate) const LEAVE: u64 = 2;
 
 /// The place of a worker.
 #[derive(Drop)]
-pub(crate) enum Seat<W: Promised> {
+pub(crate) enum WorkerAt<W: Promised> {
     /// On a thread of its own.
     Thread(PromisedHandle<Left<W>, AsGiven<W>>),
     /// On none.
@@ -66,7 +66,7 @@ fn sit<W: Work, R: Wait + Drop>(
 }
 
 /// Makes a thread for a worker. Where none can be made, all threads are told to leave.
-pub(crate) fn seat_one<W, R>(rt: R, worker: W, signal: &Signal) -> Seat<W>
+pub(crate) fn seat_one<W, R>(rt: R, worker: W, signal: &Signal) -> WorkerAt<W>
 where
     W: Work + Send + 'static,
     W::Ended: Send + 'static,
@@ -76,26 +76,26 @@ where
     let Ok(theirs) = Arc::try_clone(signal) else {
         // step: leave
         signal.store(LEAVE, Ordering::SeqCst);
-        return Seat::Here(Left::Unbegun(worker));
+        return WorkerAt::Here(Left::Unbegun(worker));
     };
     let promise = AsGiven(Snapshot::of(&worker));
     let kind = PhantomData::<W::Ended>;
     match thread::spawn_with(&rt, promise, move || sit(rt, worker, theirs, kind)) {
-        Ok(handle) => Seat::Thread(handle),
+        Ok(handle) => WorkerAt::Thread(handle),
         Err(refused) => {
             // step: leave
             signal.store(LEAVE, Ordering::SeqCst);
-            Seat::Here((refused.value)())
+            WorkerAt::Here((refused.value)())
         }
     }
 }
 
 /// Joins a worker's thread, if it has one.
-pub(crate) fn left_of<W: Promised, R: Threads>(rt: &R, seat: Seat<W>) -> Left<W>
+pub(crate) fn left_of<W: Promised, R: Threads>(rt: &R, seat: WorkerAt<W>) -> Left<W>
     ensures { Leaves W.keeps seat result }
 {
     match seat {
-        Seat::Thread(handle) => handle.join(rt),
-        Seat::Here(left) => left,
+        WorkerAt::Thread(handle) => handle.join(rt),
+        WorkerAt::Here(left) => left,
     }
 }

@@ -5,7 +5,7 @@ ghost use Rattle.run_team.specs.Works.{Together};
 ghost use Rattle.run_team.specs.Seats.{IsSeatOf, Leaves, Ends};
 ghost use Rattle.run_team.specs.Teams.{AccountsFor};
 
-use crate::seat::{BEGIN, Seat, Signal, WAIT, left_of, seat_one};
+use crate::seat::{BEGIN, Signal, WAIT, WorkerAt, left_of, seat_one};
 use crate::work::{Left, Promised, Work, end_of};
 use std::alloc::Global;
 use std::marker::Model;
@@ -27,7 +27,7 @@ pub enum NotStarted<W: Promised> {
 #[derive(Drop)]
 pub struct Team<W: Promised> {
     given: Snapshot<Vec<W>>,
-    seats: Vec<Seat<W>>,
+    seats: Vec<WorkerAt<W>>,
     // Empty, with room for what the workers give back.
     ended: Vec<W::Ended>,
 }
@@ -46,7 +46,12 @@ impl<W: Promised> Model for Team<W> {
 }
 
 /// Makes a thread for each worker.
-fn seat_all<W, R>(rt: R, workers: Vec<W>, signal: &Signal, seats: Vec<Seat<W>>) -> Vec<Seat<W>>
+fn seat_all<W, R>(
+    rt: R,
+    workers: Vec<W>,
+    signal: &Signal,
+    seats: Vec<WorkerAt<W>>,
+) -> Vec<WorkerAt<W>>
 where
     W: Work + Send + 'static,
     W::Ended: Send + 'static,
@@ -75,7 +80,7 @@ fn begins(signal: &Signal) -> bool {
 /// Joins all threads.
 fn leave_all<W: Promised, R: Threads>(
     rt: &R,
-    seats: Vec<Seat<W>>,
+    seats: Vec<WorkerAt<W>>,
     lefts: Vec<Left<W>>,
 ) -> Vec<Left<W>>
     requires empty { lefts.items ≡ [] }
@@ -92,7 +97,7 @@ fn leave_all<W: Promised, R: Threads>(
 /// Joins all threads. A worker that never began is run here.
 fn end_all<W: Work, R: Threads + Wait>(
     rt: &R,
-    seats: Vec<Seat<W>>,
+    seats: Vec<WorkerAt<W>>,
     ended: Vec<W::Ended>,
 ) -> Vec<W::Ended>
     requires empty { ended.items ≡ [] }

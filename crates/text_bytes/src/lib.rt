@@ -17,6 +17,6 @@ pub use draft::{LineDraft, MOST_BYTES};
 pub use fault::Stop;
 pub use lines::{read_lines, read_text};
 pub use once::{DeviceFault, MOST_INTERRUPTIONS, Once};
-pub use sink::Sink;
+pub use sink::ByteSink;
 pub use source::{Source, TextSource};
 pub use steady::{flush, write_all};

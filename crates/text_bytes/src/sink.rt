@@ -11,7 +11,7 @@ use std::io::{ErrorKind, Write};
 ///
 /// `tries` is how many writes and flushes were tried, if the sink counts them. `interrupts` says that one that is interrupted leads from one
 /// state to another. `fails` says the same of one that fails.
-pub trait Sink {
+pub trait ByteSink {
     ghost contents: { Self → Option (List ℕ) };
 
     ghost tries: { Self → Option ℕ };
@@ -39,7 +39,7 @@ pub trait Sink {
 }
 
 /// Any writer. What its writes may do is not known. A write that takes nothing counts as failed.
-impl<W: Write> Sink for W {
+impl<W: Write> ByteSink for W {
     ghost contents = { W.contents };
 
     ghost tries = { λ sink. None };

@@ -5,10 +5,10 @@ ghost use Rattle.std.specs.Io.KnownBytes.{Keeps, Appends};
 ghost use Rattle.text_bytes.specs.Tries.{HasFailed, HasFailedSince, IsNoFewer};
 
 use crate::once::{DeviceFault, MOST_INTERRUPTIONS, Once};
-use crate::sink::Sink;
+use crate::sink::ByteSink;
 
 /// Writes all of the bytes. After a fault the first of them are written, and not all.
-pub fn write_all<S: Sink>(sink: &mut S, bytes: &[u8]) -> Result<(), DeviceFault>
+pub fn write_all<S: ByteSink>(sink: &mut S, bytes: &[u8]) -> Result<(), DeviceFault>
     ensures ok { OnOk result (Appends (S.contents sink.old) (S.contents sink.new) bytes.now) }
     ensures err { OnErr result ((count : ℕ) × (count < length bytes.now)
         × Appends (S.contents sink.old) (S.contents sink.new) (take count bytes.now)) }
@@ -23,7 +23,7 @@ pub fn write_all<S: Sink>(sink: &mut S, bytes: &[u8]) -> Result<(), DeviceFault>
 }
 
 /// Writes the first of the bytes, one at least.
-fn write_some<S: Sink>(sink: &mut S, bytes: &[u8]) -> Result<usize, DeviceFault>
+fn write_some<S: ByteSink>(sink: &mut S, bytes: &[u8]) -> Result<usize, DeviceFault>
     requires { 0 < length bytes.now }
     ensures some { IfOk result (λ count. 1 ≤ count) }
     ensures within { IfOk result (λ count. count ≤ length bytes.now) }
@@ -44,7 +44,7 @@ fn write_some<S: Sink>(sink: &mut S, bytes: &[u8]) -> Result<usize, DeviceFault>
 }
 
 /// Tells the writer that no more comes.
-pub fn flush<S: Sink>(sink: &mut S) -> Result<(), DeviceFault>
+pub fn flush<S: ByteSink>(sink: &mut S) -> Result<(), DeviceFault>
     ensures kept { Keeps (S.contents sink.old) (S.contents sink.new) }
     ensures failed { OnErr result (HasFailed S.tries S.interrupts S.fails sink.old sink.new) }
     ensures tried { IsNoFewer (S.tries sink.old) (S.tries sink.new) }

@@ -13,7 +13,7 @@ ghost use Rattle.text_journal.specs.Texts as spec;
 use base_words::{ActorNo, Note};
 use note_journal::{Assembly, Journal};
 use std::alloc::{AllocError, Global};
-use text_bytes::{Sink, write_all};
+use text_bytes::{ByteSink, write_all};
 use text_words::{Fault, NoteLine};
 
 /// A page of this many bytes is full, and is written.
@@ -28,7 +28,7 @@ const LONGEST_LINE: usize = 128;
 ///
 /// Want of memory for the page (`Memory`), a failed write or 1000 interrupted ones in a row (`Write`). A prefix of the text may be
 /// written. Nothing is tried behind a failed write.
-pub fn write_journal<C, S: Sink>(
+pub fn write_journal<C, S: ByteSink>(
     alloc: Global,
     assembly: &Assembly,
     sink: &mut S,
@@ -93,7 +93,7 @@ fn put_end(page: &mut String) -> Result<(), AllocError>
 }
 
 /// Puts the notes of all actors, actor after actor.
-fn put_journals<C, S: Sink>(
+fn put_journals<C, S: ByteSink>(
     assembly: &Assembly,
     page: &mut String,
     sink: &mut S,
@@ -115,7 +115,7 @@ fn put_journals<C, S: Sink>(
 }
 
 /// Puts the notes of one actor, the oldest first.
-fn put_notes<C, S: Sink>(
+fn put_notes<C, S: ByteSink>(
     actor: ActorNo,
     journal: &Journal<u64>,
     page: &mut String,
@@ -150,7 +150,7 @@ fn put_note(actor: ActorNo, note: Note<u64>, page: &mut String) -> Result<(), Al
 }
 
 /// Writes the page, and empties it.
-fn write_page<C, S: Sink>(page: &mut String, sink: &mut S) -> Result<(), Fault<C>>
+fn write_page<C, S: ByteSink>(page: &mut String, sink: &mut S) -> Result<(), Fault<C>>
     ensures ok { OnOk result (Appends (S.contents sink.old) (S.contents sink.new) (string_bytes page.old)) }
     ensures empty { OnOk result (string_bytes page.new ≡ []) }
     ensures err { OnErr result (AppendsFront (S.contents sink.old) (S.contents sink.new) (string_bytes page.old)) }

@@ -1,17 +1,17 @@
 -- Events that made no note, as lines of text.
 use Rattle.std.specs.Prelude.{ℕ, ◌++◌, List, codes, decimal}
 use Rattle.base_words.specs.declared.names.JobId.{JobId}
-use Rattle.text_words.specs.declared.reply.Ends.{Ends}
+use Rattle.text_words.specs.declared.reply.EventEnds.{EventEnds}
 use Rattle.text_words.specs.declared.reply.Quiet.{Quiet}
 use Rattle.text_words.specs.declared.reply.Quiet.TheVariants as quiet
 use Rattle.text_words.specs.Notes.{name_text}
 
 -- the submission that an event names: one of its actor, to the other end
-abbrev pub name_of : Ends → JobId
+abbrev pub name_of : EventEnds → JobId
 name_of ends = record { from = ends.actor; to = ends.other; number = ends.number }
 
 -- the line of an event that made no note, without its line feed
-abbrev pub reply_line : Ends → Quiet → List ℕ
+abbrev pub reply_line : EventEnds → Quiet → List ℕ
 reply_line ends quiet.Idle = decimal ends.actor ++ codes " idle"
 reply_line ends quiet.NoTurnLeft = decimal ends.actor ++ codes " spent"
 reply_line ends quiet.Full = decimal ends.actor ++ codes " full " ++ decimal ends.other

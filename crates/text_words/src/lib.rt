@@ -18,6 +18,6 @@ pub mod words;
 
 pub use fault::{Cause, CauseWords, Fault};
 pub use note::NoteLine;
-pub use reply::{Ends, Quiet, ReplyLine};
+pub use reply::{EventEnds, Quiet, ReplyLine};
 pub use status::Status;
 pub use words::Words;

@@ -11,7 +11,7 @@ use std::fmt;
 /// The actor that makes the step of an event, the core or actor at the other end of its link, and the number of the submission
 /// that it names. What an event doesn't have is 0.
 #[derive(Clone, Copy)]
-pub struct Ends {
+pub struct EventEnds {
     pub actor: ActorNo,
     pub other: u8,
     pub number: u64,
@@ -48,7 +48,7 @@ pub enum Quiet {
 
 /// The line of an event that made no note, without its line feed.
 #[derive(Clone, Copy)]
-pub struct ReplyLine(pub Ends, pub Quiet);
+pub struct ReplyLine(pub EventEnds, pub Quiet);
 
 impl fmt::Display for ReplyLine {
     ghost output = { λ line. Some (spec.reply_line line.0 line.1) };
@@ -77,7 +77,7 @@ impl fmt::Display for ReplyLine {
 
 /// An actor and what is said of it.
 #[derive(Clone, Copy)]
-struct ActorText(Ends, &'static str);
+struct ActorText(EventEnds, &'static str);
 
 impl fmt::Display for ActorText {
     ghost output = { λ text. Some (decimal text.0.actor ++ text.1.now) };
@@ -91,7 +91,7 @@ impl fmt::Display for ActorText {
 
 /// An actor, what is said of it, and who is at the other end.
 #[derive(Clone, Copy)]
-struct LinkText(Ends, &'static str);
+struct LinkText(EventEnds, &'static str);
 
 impl fmt::Display for LinkText {
     ghost output = { λ text. Some (decimal text.0.actor ++ text.1.now ++ decimal text.0.other) };
@@ -106,7 +106,7 @@ impl fmt::Display for LinkText {
 
 /// An actor, and what is said of its submission.
 #[derive(Clone, Copy)]
-struct TicketText(Ends, &'static str);
+struct TicketText(EventEnds, &'static str);
 
 impl fmt::Display for TicketText {
     ghost output = { λ text. Some (decimal text.0.actor ++ text.1.now ++ name_text (spec.name_of text.0)) };

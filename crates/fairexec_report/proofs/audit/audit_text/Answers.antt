@@ -10,7 +10,7 @@ returns-in-Ok-clause-done g c = record {
   verdict = c.in_ok-verdict.verdict;
   judged = judged (g.R.Source.remaining c.args.source.now) c.in_ok-assembly.assembly c.in_ok-verdict.verdict c.in_ok-assembly.ensures.same_text c.in_ok-verdict.ensures.sound c.in_ok-verdict.ensures.rule c.in_ok-verdict.ensures.place c.in_ok-verdict.ensures.only;
   answered = c.is_sound.ensures;
-  appends = subst (Appends (g.S.Sink.contents c.args.sink.now) (g.S.Sink.contents c.write_line.new.sink))
+  appends = subst (Appends (g.S.ByteSink.contents c.args.sink.now) (g.S.ByteSink.contents c.write_line.new.sink))
       (line_of _ _ c.as_bytes.result.now (verdict_text c.in_ok-verdict.verdict) c.as_bytes.ensures.value c.in_ok-put_verdict.ensures c.new-page.ensures.bytes) c.in-Ok.ensures.ok;
 }
 
@@ -18,7 +18,7 @@ pub returns-clause-unwritten : goal.returns-clause-unwritten
 returns-clause-unwritten g c = record {
   verdict = c.in_ok-verdict.verdict;
   judged = judged (g.R.Source.remaining c.args.source.now) c.in_ok-assembly.assembly c.in_ok-verdict.verdict c.in_ok-assembly.ensures.same_text c.in_ok-verdict.ensures.sound c.in_ok-verdict.ensures.rule c.in_ok-verdict.ensures.place c.in_ok-verdict.ensures.only;
-  appends = subst (AppendsFront (g.S.Sink.contents c.args.sink.now) (g.S.Sink.contents c.write_line.new.sink))
+  appends = subst (AppendsFront (g.S.ByteSink.contents c.args.sink.now) (g.S.ByteSink.contents c.write_line.new.sink))
       (line_of _ _ c.as_bytes.result.now (verdict_text c.in_ok-verdict.verdict) c.as_bytes.ensures.value c.in_ok-put_verdict.ensures c.new-page.ensures.bytes) c.in-Err.ensures.err;
 }
 

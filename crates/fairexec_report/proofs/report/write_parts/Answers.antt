@@ -41,15 +41,15 @@ returns-clause-err g c =
 pub returns-clause-failed : goal.returns-clause-failed
 returns-clause-failed g c =
     let two = no_fewer _ _ _ c.write_all.ensures.tried c.write_all-2.ensures.tried in
-    failed_last g.S.Sink.tries g.S.Sink.interrupts g.S.Sink.fails c.args.sink.now c.write_all-3.new.sink c.flush.new.sink c.flush.result (no_fewer _ _ _ two c.write_all-3.ensures.tried) c.flush.ensures.failed
+    failed_last g.S.ByteSink.tries g.S.ByteSink.interrupts g.S.ByteSink.fails c.args.sink.now c.write_all-3.new.sink c.flush.new.sink c.flush.result (no_fewer _ _ _ two c.write_all-3.ensures.tried) c.flush.ensures.failed
 
 pub returns-in_err-write_all-2-clause-failed : goal.returns-in_err-write_all-2-clause-failed
 returns-in_err-write_all-2-clause-failed g c =
     OnErr-any c.from_residual-in_err-write_all-2.result
-    (failed_since g.S.Sink.tries g.S.Sink.interrupts g.S.Sink.fails c.args.sink.now c.write_all.new.sink c.write_all-2.new.sink c.write_all.ensures.tried c.in_err-write_all-2.ensures.failed)
+    (failed_since g.S.ByteSink.tries g.S.ByteSink.interrupts g.S.ByteSink.fails c.args.sink.now c.write_all.new.sink c.write_all-2.new.sink c.write_all.ensures.tried c.in_err-write_all-2.ensures.failed)
 
 pub returns-in_err-write_all-3-clause-failed : goal.returns-in_err-write_all-3-clause-failed
 returns-in_err-write_all-3-clause-failed g c =
     let two = no_fewer _ _ _ c.write_all.ensures.tried c.write_all-2.ensures.tried in
     OnErr-any c.from_residual-in_err-write_all-3.result
-    (failed_since g.S.Sink.tries g.S.Sink.interrupts g.S.Sink.fails c.args.sink.now c.write_all-2.new.sink c.write_all-3.new.sink two c.in_err-write_all-3.ensures.failed)
+    (failed_since g.S.ByteSink.tries g.S.ByteSink.interrupts g.S.ByteSink.fails c.args.sink.now c.write_all-2.new.sink c.write_all-3.new.sink two c.in_err-write_all-3.ensures.failed)

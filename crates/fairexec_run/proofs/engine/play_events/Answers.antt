@@ -14,10 +14,10 @@ pub open_model-requires-clause-few : goal.open_model-requires-clause-few
 open_model-requires-clause-few g c = subst HasFewQueues (sym c.as_slice.ensures.value) c.args.script.few
 
 pub returns-in_err-model-clause-err : goal.returns-in_err-model-clause-err
-returns-in_err-model-clause-err g c = OnErr-any c.from_residual.result (inl (Keeps-refl (g.S.Sink.contents c.args.sink.now)))
+returns-in_err-model-clause-err g c = OnErr-any c.from_residual.result (inl (Keeps-refl (g.S.ByteSink.contents c.args.sink.now)))
 
 pub returns-in_err-page-clause-err : goal.returns-in_err-page-clause-err
-returns-in_err-page-clause-err g c = OnErr-any c.from_residual-in_err-page.result (inl (Keeps-refl (g.S.Sink.contents c.args.sink.now)))
+returns-in_err-page-clause-err g c = OnErr-any c.from_residual-in_err-page.result (inl (Keeps-refl (g.S.ByteSink.contents c.args.sink.now)))
 
 pub print_events-requires-clause-roomy : goal.print_events-requires-clause-roomy
 print_events-requires-clause-roomy g c = opened_roomy _ _ _ c.as_slice.result.now c.in_ok-model.model c.in_ok-model.ensures.ok c.args.script.sized c.args.script.bursts
@@ -36,8 +36,8 @@ returns-clause-ok g c =
     let opened = subst (λ queues. IsOpened c.args.script.cores c.args.script.cap c.args.script.burst queues c.in_ok-model.model) c.as_slice.ensures.value c.in_ok-model.ensures.ok in
     on_ok_weaker c.print_rear.result
     (
-    events_printed (drafted c.args.script) _ _ refl c.in_ok-model.model opened _ c.in_ok-page.ensures.bytes (g.S.Sink.contents c.args.sink.now) c.print_events.new.model _ _ c.in_ok-print_events.ensures.ok c.complete.ensures c.joined.ensures c.sound.ensures
-    c.args.stats (g.S.Sink.contents c.print_rear.new.sink)
+    events_printed (drafted c.args.script) _ _ refl c.in_ok-model.model opened _ c.in_ok-page.ensures.bytes (g.S.ByteSink.contents c.args.sink.now) c.print_events.new.model _ _ c.in_ok-print_events.ensures.ok c.complete.ensures c.joined.ensures c.sound.ensures
+    c.args.stats (g.S.ByteSink.contents c.print_rear.new.sink)
     )
     c.print_rear.ensures.ok
 
@@ -46,11 +46,11 @@ returns-clause-err g c =
     let opened = subst (λ queues. IsOpened c.args.script.cores c.args.script.cap c.args.script.burst queues c.in_ok-model.model) c.as_slice.ensures.value c.in_ok-model.ensures.ok in
     on_err_weaker c.print_rear.result
     (
-    events_begun (drafted c.args.script) _ _ refl c.in_ok-model.model opened _ c.in_ok-page.ensures.bytes (g.S.Sink.contents c.args.sink.now) c.print_events.new.model _ _ c.in_ok-print_events.ensures.ok c.complete.ensures c.joined.ensures c.sound.ensures
-    c.args.stats (g.S.Sink.contents c.print_rear.new.sink)
+    events_begun (drafted c.args.script) _ _ refl c.in_ok-model.model opened _ c.in_ok-page.ensures.bytes (g.S.ByteSink.contents c.args.sink.now) c.print_events.new.model _ _ c.in_ok-print_events.ensures.ok c.complete.ensures c.joined.ensures c.sound.ensures
+    c.args.stats (g.S.ByteSink.contents c.print_rear.new.sink)
     )
     c.print_rear.ensures.err
 
 pub returns-clause-failed : goal.returns-clause-failed
 returns-clause-failed g c =
-    call_unwritten_since g.S.Sink.tries g.S.Sink.interrupts g.S.Sink.fails c.args.sink.now c.print_events.new.sink c.print_rear.new.sink c.print_rear.result c.print_events.ensures.tried c.print_rear.ensures.failed
+    call_unwritten_since g.S.ByteSink.tries g.S.ByteSink.interrupts g.S.ByteSink.fails c.args.sink.now c.print_events.new.sink c.print_rear.new.sink c.print_rear.result c.print_events.ensures.tried c.print_rear.ensures.failed

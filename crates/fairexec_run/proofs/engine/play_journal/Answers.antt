@@ -16,13 +16,13 @@ pub open_model-requires-clause-few : goal.open_model-requires-clause-few
 open_model-requires-clause-few g c = subst HasFewQueues (sym c.as_slice.ensures.value) c.args.script.few
 
 pub returns-in_err-model-clause-err : goal.returns-in_err-model-clause-err
-returns-in_err-model-clause-err g c = OnErr-any c.from_residual.result (inl (Keeps-refl (g.S.Sink.contents c.args.sink.now)))
+returns-in_err-model-clause-err g c = OnErr-any c.from_residual.result (inl (Keeps-refl (g.S.ByteSink.contents c.args.sink.now)))
 
 pub returns-in_err-events-clause-err : goal.returns-in_err-events-clause-err
-returns-in_err-events-clause-err g c = OnErr-any c.from_residual-in_err-events.result (inl (Keeps-refl (g.S.Sink.contents c.args.sink.now)))
+returns-in_err-events-clause-err g c = OnErr-any c.from_residual-in_err-events.result (inl (Keeps-refl (g.S.ByteSink.contents c.args.sink.now)))
 
 pub returns-in_err-page-clause-err : goal.returns-in_err-page-clause-err
-returns-in_err-page-clause-err g c = OnErr-any c.from_residual-in_err-page.result (inl (Keeps-refl (g.S.Sink.contents c.args.sink.now)))
+returns-in_err-page-clause-err g c = OnErr-any c.from_residual-in_err-page.result (inl (Keeps-refl (g.S.ByteSink.contents c.args.sink.now)))
 
 pub run-assembly-requires-clause-unbegun : goal.run-assembly-requires-clause-unbegun
 run-assembly-requires-clause-unbegun g c = c.in_ok-model.ensures.ok.may.unbegun
@@ -49,7 +49,7 @@ returns-clause-ok g c =
     on_ok_weaker c.print_rear.result
     (
     journal_printed (drafted c.args.script) _ _ refl c.in_ok-model.model opened c.run-assembly.result runs spelled c.run-assembly.ensures.joined c.run-assembly.ensures.sound
-    (g.S.Sink.contents c.args.sink.now) _ c.in_ok-print_journal.ensures.ok _ c.in_ok-page.ensures.bytes c.args.stats (g.S.Sink.contents c.print_rear.new.sink)
+    (g.S.ByteSink.contents c.args.sink.now) _ c.in_ok-print_journal.ensures.ok _ c.in_ok-page.ensures.bytes c.args.stats (g.S.ByteSink.contents c.print_rear.new.sink)
     )
     c.print_rear.ensures.ok
 
@@ -61,10 +61,10 @@ returns-clause-err g c =
     on_err_weaker c.print_rear.result
     (
     journal_begun (drafted c.args.script) _ _ refl c.in_ok-model.model opened c.run-assembly.result runs spelled c.run-assembly.ensures.joined c.run-assembly.ensures.sound
-    (g.S.Sink.contents c.args.sink.now) _ c.in_ok-print_journal.ensures.ok _ c.in_ok-page.ensures.bytes c.args.stats (g.S.Sink.contents c.print_rear.new.sink)
+    (g.S.ByteSink.contents c.args.sink.now) _ c.in_ok-print_journal.ensures.ok _ c.in_ok-page.ensures.bytes c.args.stats (g.S.ByteSink.contents c.print_rear.new.sink)
     )
     c.print_rear.ensures.err
 
 pub returns-clause-failed : goal.returns-clause-failed
 returns-clause-failed g c =
-    call_unwritten_since g.S.Sink.tries g.S.Sink.interrupts g.S.Sink.fails c.args.sink.now c.print_journal.new.sink c.print_rear.new.sink c.print_rear.result c.print_journal.ensures.tried c.print_rear.ensures.failed
+    call_unwritten_since g.S.ByteSink.tries g.S.ByteSink.interrupts g.S.ByteSink.fails c.args.sink.now c.print_journal.new.sink c.print_rear.new.sink c.print_rear.result c.print_journal.ensures.tried c.print_rear.ensures.failed

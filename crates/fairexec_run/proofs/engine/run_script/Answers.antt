@@ -30,5 +30,5 @@ returns-in_err-play-clause-judged g c =
 
 pub returns-in_err-play-clause-begun : goal.returns-in_err-play-clause-begun
 returns-in_err-play-clause-begun g c =
-    ended (IsCutShort c.args.journal c.args.stats (g.R.Source.remaining c.args.source.now) (g.S.Sink.contents c.args.sink.now) (g.S.Sink.contents c.play.new.sink))
+    ended (IsCutShort c.args.journal c.args.stats (g.R.Source.remaining c.args.source.now) (g.S.ByteSink.contents c.args.sink.now) (g.S.ByteSink.contents c.play.new.sink))
     (⊎_elim (λ kept. inl kept) (λ part. inr (drafted c.in_ok-script.script, c.in_ok-script.ensures.ok, part)) c.in_err-play.ensures.err) c.from_residual-in_err-play.result

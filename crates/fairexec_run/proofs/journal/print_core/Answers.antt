@@ -20,4 +20,4 @@ returns-clause-ok g c =
 pub returns-clause-err : goal.returns-clause-err
 returns-clause-err g c =
     let put = c.in_ok-put_stats.ensures in
-    on_err_weaker c.print_page.result (λ front. (put.0, inr put.1, subst (AppendsFront (g.S.Sink.contents c.args.sink.now) (g.S.Sink.contents c.print_page.new.sink)) put.2 front)) c.print_page.ensures.err
+    on_err_weaker c.print_page.result (λ front. (put.0, inr put.1, subst (AppendsFront (g.S.ByteSink.contents c.args.sink.now) (g.S.ByteSink.contents c.print_page.new.sink)) put.2 front)) c.print_page.ensures.err

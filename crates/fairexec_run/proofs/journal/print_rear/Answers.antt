@@ -21,4 +21,4 @@ returns-clause-err g c = on_err_weaker c.print_last-2.result (rear_front c.args.
 
 pub returns-clause-failed : goal.returns-clause-failed
 returns-clause-failed g c =
-    written_since g.S.Sink.tries g.S.Sink.interrupts g.S.Sink.fails c.args.sink.now c.print_stats.new.sink c.print_last-2.new.sink c.print_last-2.result c.print_stats.ensures.tried c.print_last-2.ensures.failed
+    written_since g.S.ByteSink.tries g.S.ByteSink.interrupts g.S.ByteSink.fails c.args.sink.now c.print_stats.new.sink c.print_last-2.new.sink c.print_last-2.result c.print_stats.ensures.tried c.print_last-2.ensures.failed

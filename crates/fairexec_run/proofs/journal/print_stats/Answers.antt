@@ -7,7 +7,7 @@ use Rattle.text_journal.proofs.TryLemmas.{unwritten_since}
 use Rattle.fairexec_run.proofs.journal.print_stats.Goals as goal
 
 pub loop-core-init : goal.loop-core-init
-loop-core-init g c = record { stats = no_stats (g.T.HasCores.assembly c.args.told.now) (string_bytes c.args.page.now) (g.S.Sink.contents c.args.sink.now); tried = omega arith }
+loop-core-init g c = record { stats = no_stats (g.T.HasCores.assembly c.args.told.now) (string_bytes c.args.page.now) (g.S.ByteSink.contents c.args.sink.now); tried = omega arith }
 
 pub loop-core-preserved : goal.loop-core-preserved
 loop-core-preserved g c = record {
@@ -25,6 +25,6 @@ returns-clause-ok g c = stats_whole (g.T.HasCores.assembly c.args.told.now) c.lo
 
 pub returns-in_err-print_core-clause-failed : goal.returns-in_err-print_core-clause-failed
 returns-in_err-print_core-clause-failed g c =
-    let failed = unwritten_since g.S.Sink.tries g.S.Sink.interrupts g.S.Sink.fails c.args.sink.now c.loop-core.sink c.print_core.new.sink c.in_err-print_core.field-0.0 c.loop-core.invariant.tried c.in_err-print_core.ensures.failed in
+    let failed = unwritten_since g.S.ByteSink.tries g.S.ByteSink.interrupts g.S.ByteSink.fails c.args.sink.now c.loop-core.sink c.print_core.new.sink c.in_err-print_core.field-0.0 c.loop-core.invariant.tried c.in_err-print_core.ensures.failed in
     let told = err_from_is_err_and c.from_residual.result c.from_residual.ensures.1 in
     rw (told.1, told.2) failed

@@ -6,6 +6,6 @@ use Rattle.fairexec_run.proofs.journal.print_stats.Given as goal
 
 abbrev pub invariant-loop-core : goal.invariant-loop-core
 invariant-loop-core g l = record {
-  stats : HasStats (g.T.HasCores.assembly l.told) l.core (string_bytes l.initial.page) (string_bytes l.page) (g.S.Sink.contents l.initial.sink) (g.S.Sink.contents l.sink);
-  tried : IsNoFewer (g.S.Sink.tries l.initial.sink) (g.S.Sink.tries l.sink);
+  stats : HasStats (g.T.HasCores.assembly l.told) l.core (string_bytes l.initial.page) (string_bytes l.page) (g.S.ByteSink.contents l.initial.sink) (g.S.ByteSink.contents l.sink);
+  tried : IsNoFewer (g.S.ByteSink.tries l.initial.sink) (g.S.ByteSink.tries l.sink);
 }

@@ -46,7 +46,7 @@ pub returns-clause-ok : goal.returns-clause-ok
 returns-clause-ok g c =
     let all = YieldsList-from_vec {s = c.into_iter-event-iterator.result} c.args.events.items c.into_iter-event-iterator.ensures.into_iter_gives.0 (c.into_iter-event-iterator.ensures.into_iter_gives.1 ∙ c.args.events.ok.0) in
     let end = YieldsList-end all c.loop-event.yielded c.loop-event.event-iterator c.loop-event.yielded_by _ c.next.new.self c.in-None.is c.next.ensures.steps in
-    subst (λ events. WritesAll events c.args.model.now c.loop-event.model (string_bytes c.args.page.now) (string_bytes c.loop-event.page) (g.S.Sink.contents c.args.sink.now) (g.S.Sink.contents c.loop-event.sink)) (sym (map-id c.loop-event.yielded) ∙ end.0) c.loop-event.invariant.writes
+    subst (λ events. WritesAll events c.args.model.now c.loop-event.model (string_bytes c.args.page.now) (string_bytes c.loop-event.page) (g.S.ByteSink.contents c.args.sink.now) (g.S.ByteSink.contents c.loop-event.sink)) (sym (map-id c.loop-event.yielded) ∙ end.0) c.loop-event.invariant.writes
 
 pub returns-in_err-print_event-clause-err : goal.returns-in_err-print_event-clause-err
 returns-in_err-print_event-clause-err g c =
@@ -66,4 +66,4 @@ returns-in_err-print_page-clause-err g c =
 pub returns-in_err-print_page-clause-failed : goal.returns-in_err-print_page-clause-failed
 returns-in_err-print_page-clause-failed g c =
     known_unwritten c.from_residual-in_err-print_page.result
-    (failed_since g.S.Sink.tries g.S.Sink.interrupts g.S.Sink.fails c.args.sink.now c.loop-event.sink c.print_page.new.sink c.loop-event.invariant.tried c.in_err-print_page.ensures.failed)
+    (failed_since g.S.ByteSink.tries g.S.ByteSink.interrupts g.S.ByteSink.fails c.args.sink.now c.loop-event.sink c.print_page.new.sink c.loop-event.invariant.tried c.in_err-print_page.ensures.failed)

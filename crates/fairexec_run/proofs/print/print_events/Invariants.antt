@@ -7,7 +7,7 @@ use Rattle.fairexec_run.proofs.print.print_events.Given as goal
 
 abbrev pub invariant-loop-event : goal.invariant-loop-event
 invariant-loop-event g l = record {
-  writes : WritesAll l.yielded l.initial.model l.model (string_bytes l.initial.page) (string_bytes l.page) (g.S.Sink.contents l.initial.sink) (g.S.Sink.contents l.sink);
+  writes : WritesAll l.yielded l.initial.model l.model (string_bytes l.initial.page) (string_bytes l.page) (g.S.ByteSink.contents l.initial.sink) (g.S.ByteSink.contents l.sink);
   roomy : IsRoomy l.initial.model.cores l.initial.model.cap l.initial.model.burst (length l.yielded) l.model;
-  tried : IsNoFewer (g.S.Sink.tries l.initial.sink) (g.S.Sink.tries l.sink);
+  tried : IsNoFewer (g.S.ByteSink.tries l.initial.sink) (g.S.ByteSink.tries l.sink);
 }

@@ -5,4 +5,4 @@ use Rattle.text_bytes.proofs.steady.flush.Goals as goal
 pub returns-clause-failed : goal.returns-clause-failed
 returns-clause-failed g c =
     let all : c.loop-i._i ≡ 1000 = omega arith in
-    inr (subst (λ count. AreInterrupted g.S.Sink.tries g.S.Sink.interrupts count c.args.sink.now c.loop-i.sink) all c.loop-i.invariant.interrupted)
+    inr (subst (λ count. AreInterrupted g.S.ByteSink.tries g.S.ByteSink.interrupts count c.args.sink.now c.loop-i.sink) all c.loop-i.invariant.interrupted)

@@ -5,7 +5,7 @@ use Rattle.text_bytes.proofs.steady.flush.Given as goal
 
 abbrev pub invariant-loop-i : goal.invariant-loop-i
 invariant-loop-i g l = record {
-  kept : Keeps (g.S.Sink.contents l.initial.sink) (g.S.Sink.contents l.sink);
-  interrupted : AreInterrupted g.S.Sink.tries g.S.Sink.interrupts l._i l.initial.sink l.sink;
-  tried : IsNoFewer (g.S.Sink.tries l.initial.sink) (g.S.Sink.tries l.sink);
+  kept : Keeps (g.S.ByteSink.contents l.initial.sink) (g.S.ByteSink.contents l.sink);
+  interrupted : AreInterrupted g.S.ByteSink.tries g.S.ByteSink.interrupts l._i l.initial.sink l.sink;
+  tried : IsNoFewer (g.S.ByteSink.tries l.initial.sink) (g.S.ByteSink.tries l.sink);
 }

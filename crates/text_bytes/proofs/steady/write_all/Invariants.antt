@@ -7,8 +7,8 @@ use Rattle.text_bytes.proofs.steady.write_all.Given as goal
 abbrev pub invariant-loop-written : goal.invariant-loop-written
 invariant-loop-written g l = record {
   within : l.written ≤ length l.bytes;
-  done : Appends (g.S.Sink.contents l.initial.sink) (g.S.Sink.contents l.sink) (take l.written l.bytes);
-  tried : IsNoFewer (g.S.Sink.tries l.initial.sink) (g.S.Sink.tries l.sink);
+  done : Appends (g.S.ByteSink.contents l.initial.sink) (g.S.ByteSink.contents l.sink) (take l.written l.bytes);
+  tried : IsNoFewer (g.S.ByteSink.tries l.initial.sink) (g.S.ByteSink.tries l.sink);
 }
 
 abbrev pub decreases-loop-written : goal.decreases-loop-written

@@ -17,7 +17,7 @@ returns-in_err-put_notes-clause-err g c =
 
 pub returns-in_err-put_notes-clause-failed : goal.returns-in_err-put_notes-clause-failed
 returns-in_err-put_notes-clause-failed g c =
-    let failed = unwritten_since g.S.Sink.tries g.S.Sink.interrupts g.S.Sink.fails c.args.sink.now c.loop-actor.sink c.put_notes.new.sink c.in_err-put_notes.field-0.0 c.loop-actor.invariant.tried c.in_err-put_notes.ensures.failed in
+    let failed = unwritten_since g.S.ByteSink.tries g.S.ByteSink.interrupts g.S.ByteSink.fails c.args.sink.now c.loop-actor.sink c.put_notes.new.sink c.in_err-put_notes.field-0.0 c.loop-actor.invariant.tried c.in_err-put_notes.ensures.failed in
     let told = err_from_is_err_and c.from_residual.result c.from_residual.ensures.1 in
     rw (told.1, told.2) failed
 
@@ -33,6 +33,6 @@ loop-actor-preserved g c =
 pub returns-clause-ok : goal.returns-clause-ok
 returns-clause-ok g c =
     let count = c.cores-actor-end.ensures in
-    subst (Puts (string_bytes c.args.page.now) (string_bytes c.loop-actor.page) (g.S.Sink.contents c.args.sink.now) (g.S.Sink.contents c.loop-actor.sink))
+    subst (Puts (string_bytes c.args.page.now) (string_bytes c.loop-actor.page) (g.S.ByteSink.contents c.args.sink.now) (g.S.ByteSink.contents c.loop-actor.sink))
     (journals_text_whole c.args.assembly.now.journals c.loop-actor.actor (omega arith))
     c.loop-actor.invariant.puts

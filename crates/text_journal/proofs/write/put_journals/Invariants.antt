@@ -7,6 +7,6 @@ use Rattle.text_journal.proofs.write.put_journals.Given as goal
 
 abbrev pub invariant-loop-actor : goal.invariant-loop-actor
 invariant-loop-actor g l = record {
-  puts : Puts (string_bytes l.initial.page) (string_bytes l.page) (g.S.Sink.contents l.initial.sink) (g.S.Sink.contents l.sink) (front_journals l.assembly.journals l.actor);
-  tried : IsNoFewer (g.S.Sink.tries l.initial.sink) (g.S.Sink.tries l.sink);
+  puts : Puts (string_bytes l.initial.page) (string_bytes l.page) (g.S.ByteSink.contents l.initial.sink) (g.S.ByteSink.contents l.sink) (front_journals l.assembly.journals l.actor);
+  tried : IsNoFewer (g.S.ByteSink.tries l.initial.sink) (g.S.ByteSink.tries l.sink);
 }

@@ -27,7 +27,7 @@ returns-in_err-write_page-clause-err g c =
 pub returns-in_err-write_page-clause-failed : goal.returns-in_err-write_page-clause-failed
 returns-in_err-write_page-clause-failed g c =
     known_unwritten c.from_residual-in_err-write_page.result
-    (failed_since g.S.Sink.tries g.S.Sink.interrupts g.S.Sink.fails c.args.sink.now c.loop-note.sink c.write_page.new.sink c.loop-note.invariant.tried c.in_err-write_page.ensures.failed)
+    (failed_since g.S.ByteSink.tries g.S.ByteSink.interrupts g.S.ByteSink.fails c.args.sink.now c.loop-note.sink c.write_page.new.sink c.loop-note.invariant.tried c.in_err-write_page.ensures.failed)
 
 pub loop-note-preserved : goal.loop-note-preserved
 loop-note-preserved g c =
@@ -38,20 +38,20 @@ loop-note-preserved g c =
     let text = front_text c.args.actor notes (c.loop-note.note-index + 1) in
     elim c.if-len-ge-FULL.branch [
       | then-len-ge-FULL+in_ok-write_page w ↦ record {
-        puts = subst (λ sink. Put (string_bytes c.if-len-ge-FULL.page) (g.S.Sink.contents c.args.sink.now) (g.S.Sink.contents sink) text) (sym w.sink-is)
+        puts = subst (λ sink. Put (string_bytes c.if-len-ge-FULL.page) (g.S.ByteSink.contents c.args.sink.now) (g.S.ByteSink.contents sink) text) (sym w.sink-is)
             (puts_out _ _ (string_bytes c.if-len-ge-FULL.page) _ _ _ _ puts w.in_ok-write_page.ensures.ok (ap (λ page. string_bytes page) w.page-is ∙ w.in_ok-write_page.ensures.empty));
-        tried = subst (λ sink. IsNoFewer (g.S.Sink.tries c.args.sink.now) (g.S.Sink.tries sink)) (sym w.sink-is)
+        tried = subst (λ sink. IsNoFewer (g.S.ByteSink.tries c.args.sink.now) (g.S.ByteSink.tries sink)) (sym w.sink-is)
             (no_fewer _ _ _ c.loop-note.invariant.tried w.write_page.ensures.tried);
       }
       | else-len-ge-FULL w ↦ record {
-        puts = subst (λ sink. Put (string_bytes c.if-len-ge-FULL.page) (g.S.Sink.contents c.args.sink.now) (g.S.Sink.contents sink) text) (sym w.sink-is)
-            (subst (λ page. Put (string_bytes page) (g.S.Sink.contents c.args.sink.now) (g.S.Sink.contents c.loop-note.sink) text) (sym w.page-is) puts);
-        tried = subst (λ sink. IsNoFewer (g.S.Sink.tries c.args.sink.now) (g.S.Sink.tries sink)) (sym w.sink-is) c.loop-note.invariant.tried;
+        puts = subst (λ sink. Put (string_bytes c.if-len-ge-FULL.page) (g.S.ByteSink.contents c.args.sink.now) (g.S.ByteSink.contents sink) text) (sym w.sink-is)
+            (subst (λ page. Put (string_bytes page) (g.S.ByteSink.contents c.args.sink.now) (g.S.ByteSink.contents c.loop-note.sink) text) (sym w.page-is) puts);
+        tried = subst (λ sink. IsNoFewer (g.S.ByteSink.tries c.args.sink.now) (g.S.ByteSink.tries sink)) (sym w.sink-is) c.loop-note.invariant.tried;
       }
     ]
 
 pub returns-clause-ok : goal.returns-clause-ok
 returns-clause-ok g c =
-    subst (Puts (string_bytes c.args.page.now) (string_bytes c.loop-note.page) (g.S.Sink.contents c.args.sink.now) (g.S.Sink.contents c.loop-note.sink))
+    subst (Puts (string_bytes c.args.page.now) (string_bytes c.loop-note.page) (g.S.ByteSink.contents c.args.sink.now) (g.S.ByteSink.contents c.loop-note.sink))
     (actor_text_whole c.args.actor c.args.journal.now.notes c.as_slice-note-items.result.now c.loop-note.note-index c.as_slice-note-items.ensures c.loop-note-test.false)
     c.loop-note.invariant.puts

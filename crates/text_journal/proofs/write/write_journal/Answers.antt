@@ -21,7 +21,7 @@ returns-in_err-put_end-clause-err g c =
 
 pub returns-clause-failed : goal.returns-clause-failed
 returns-clause-failed g c =
-    written_since g.S.Sink.tries g.S.Sink.interrupts g.S.Sink.fails c.args.sink.now c.put_journals.new.sink c.write_page.new.sink c.write_page.result c.put_journals.ensures.tried c.write_page.ensures.failed
+    written_since g.S.ByteSink.tries g.S.ByteSink.interrupts g.S.ByteSink.fails c.args.sink.now c.put_journals.new.sink c.write_page.new.sink c.write_page.result c.put_journals.ensures.tried c.write_page.ensures.failed
 
 pub returns-clause-ok : goal.returns-clause-ok
 returns-clause-ok g c =

@@ -6,5 +6,5 @@ use Rattle.text_journal.proofs.write.write_page.Goals as goal
 pub returns-in-Err-clause-err : goal.returns-in-Err-clause-err
 returns-in-Err-clause-err g c =
     let out = c.in-Err.ensures.err in
-    subst (AppendsFront (g.S.Sink.contents c.args.sink.now) (g.S.Sink.contents c.write_all.new.sink)) c.as_bytes.ensures.value
+    subst (AppendsFront (g.S.ByteSink.contents c.args.sink.now) (g.S.ByteSink.contents c.write_all.new.sink)) c.as_bytes.ensures.value
     (front_of_count _ _ c.as_bytes.result.now out.0 out.2)

@@ -6,9 +6,9 @@ use Rattle.note_sinks.proofs.TextLemmas.{holds_written}
 use Rattle.note_sinks.proofs.lines.Lines.flush.Goals as goal
 
 pub invariant_of-self : goal.invariant_of-self
-invariant_of-self g c = holds_written g.W.Sink.contents c.self.inside.actor c.self.inside.refusals c.self.inside.refusals c.self.inside.shortages c.self.inside.shortages _ _ _ _ _ _ c.self.inside.has.items c.self.invariant c.flush.ensures.writes
+invariant_of-self g c = holds_written g.W.ByteSink.contents c.self.inside.actor c.self.inside.refusals c.self.inside.refusals c.self.inside.shortages c.self.inside.shortages _ _ _ _ _ _ c.self.inside.has.items c.self.invariant c.flush.ensures.writes
 
 pub returns-clause-failed : goal.returns-clause-failed
 returns-clause-failed g c =
-    subst (λ (view : LinesView g.row.W.Denot). OnErr c.flush.result (HasFailedSince g.W.Sink.tries g.W.Sink.interrupts g.W.Sink.fails view.writer c.flush.new.self.writer)) c.self.view_is
+    subst (λ (view : LinesView g.row.W.Denot). OnErr c.flush.result (HasFailedSince g.W.ByteSink.tries g.W.ByteSink.interrupts g.W.ByteSink.fails view.writer c.flush.new.self.writer)) c.self.view_is
     c.flush.ensures.failed

@@ -8,7 +8,7 @@ use Rattle.note_sinks.proofs.lines.LinesSink.take.Goals as goal
 
 pub returns-clause-ok_writes : goal.returns-clause-ok_writes
 returns-clause-ok_writes g c =
-    let contents = g.W.Sink.contents in
+    let contents = g.W.ByteSink.contents in
     let View = LinesView g.row.W.Denot in
     let old = c.args.self.now in
     let room = c.make_room.new.self in
@@ -31,4 +31,4 @@ returns-then-is_err-clause-why g c =
     let same : c.refuse.new.self.shortages ≡ old.shortages =
     ap (λ (view : View). view.shortages) c.refuse.ensures.same ∙ ap (λ (view : View). view.shortages) c.make_room.ensures.same in
     OnErr-any c.refuse.result
-    (inr (same, subst (λ (last : g.row.W.Denot). HasFailedSince g.W.Sink.tries g.W.Sink.interrupts g.W.Sink.fails old.writer last) (sym writer) failed))
+    (inr (same, subst (λ (last : g.row.W.Denot). HasFailedSince g.W.ByteSink.tries g.W.ByteSink.interrupts g.W.ByteSink.fails old.writer last) (sym writer) failed))
