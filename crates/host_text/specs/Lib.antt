@@ -1,4 +1,5 @@
 pub mod Bad
+pub mod BadBytes
 pub mod BadPieces
 pub mod BytesLaws
 pub mod Laws

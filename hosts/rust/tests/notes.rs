@@ -81,6 +81,7 @@ fn parts_in_bytes_say_how_many_notes_came_before() -> Result<(), Error> {
     let config = Config { places: 4, notes: 1 << 12, form: Form::Bytes, ..Config::default() };
     let (house, mut cores, mut outside): Opened<u64> = House::open(&config)?;
     assert_eq!(&config.head(), b"fxh1\x01\x01\x04\x00");
+    outside.keep_notes_by(|_| {});
     let mut none = Vec::new();
     cores[0].pass_on(&mut none)?;
     assert!(none.is_empty());
@@ -114,12 +115,13 @@ fn parts_in_bytes_say_how_many_notes_came_before() -> Result<(), Error> {
 fn the_newest_notes_of_a_house_in_bytes_are_text() -> Result<(), Error> {
     let config = Config { places: 4, notes: 12, journal: Journal::Last(5), form: Form::Bytes, ..Config::default() };
     let (_house, mut cores, mut outside): Opened<u64> = House::open(&config)?;
-    run_jobs(&mut cores[0], &mut outside, 100)?;
+    run_jobs(&mut cores[0], &mut outside, 101)?;
     let (mut text, mut part) = (Vec::new(), Vec::new());
     assert_eq!(cores[0].newest(1, &mut text)?, 1);
-    assert_eq!(String::from_utf8_lossy(&text), "0 done 1>0#100 0 = 99\n");
+    assert_eq!(String::from_utf8_lossy(&text), "0 done 1>0#101 0 = 100\n");
     cores[0].pass_on(&mut part)?;
-    assert!(matches!(heads_of(&part)[..], [(0, before, count)] if before + count == 400));
+    let heads = heads_of(&part);
+    assert!(matches!(heads[..], [(0, before, count)] if count > 0 && before + count == 404), "{heads:?}");
     Ok(())
 }
 

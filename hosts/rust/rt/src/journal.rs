@@ -10,7 +10,7 @@ use std::sync::{Arc, Mutex};
 
 /// What becomes of the notes that each core makes of what it did.
 ///
-/// A note costs the same in each case, some nanoseconds. `Parts` pays some 20 more for its bytes. Its text takes some 250, which `Last` pays for as
+/// A note costs the same in each case, some nanoseconds. `Parts` pays some 50 more for its bytes. Its text takes some 250, which `Last` pays for as
 /// many notes as stay, once for each half of the journal that is filled: with the room that it has at first, one note of 16.
 ///
 /// ```
