@@ -1,5 +1,5 @@
 -- Journals of a house and their bytes are one.
-use Rattle.std.proofs.Common.{◌≡◌, ℕ, zero, suc, ◌+◌, ◌-◌, ◌<◌, ◌≤◌, List, [], ◌∷◌, ◌++◌, length, drop, reverse, Ok, Err, refl, sym, ap, subst, ◌∙◌, append_assoc, append-nil, arith}
+use Rattle.std.proofs.Common.{◌≡◌, ℕ, zero, suc, ◌+◌, ◌-◌, ◌<◌, ◌≤◌, List, [], ◌∷◌, ◌++◌, length, drop, reverse, Result, Ok, Err, refl, sym, ap, subst, ◌∙◌, append_assoc, append-nil, arith}
 use Rattle.std.specs.Prelude.{All}
 use Rattle.std.specs.List.{AllByRecursion}
 use Rattle.std.proofs.lemmas.List.{drop_at, length-append, length-reverse, reverse-append, reverse-reverse}
@@ -12,6 +12,7 @@ use Rattle.base_words.specs.Limits.{most_notes}
 use Rattle.base_words.specs.Spelled.{AreSpelledNotes, IsSpelledNote}
 use Rattle.base_words.specs.Terms.{Terms}
 use Rattle.base_words.specs.declared.note.Note.{Note}
+use Rattle.text_journal.specs.declared.part.PartCause.{PartCause}
 use Rattle.text_journal.specs.declared.part.PartCause.TheVariants as part
 use Rattle.text_journal.specs.declared.parts.House.{House}
 use Rattle.text_journal.specs.declared.parts.PartsCause.{PartsCause}
@@ -22,8 +23,8 @@ use Rattle.text_journal.specs.Laws.{HoldsTimes}
 use Rattle.text_journal.specs.PartLaws.{HasHead}
 use Rattle.text_journal.specs.Parts.{PartView, head_of, part_at, part_bytes}
 use Rattle.text_journal.specs.Raised.{Drafted, all_journals, assembly_of, raised_to}
-use Rattle.text_journal.proofs.ByteFields.{IsBytes, IsBytes-drop}
-use Rattle.text_journal.proofs.ByteParts.{part_again, part_taken}
+use Rattle.text_journal.proofs.ByteFields.{some_is}
+use Rattle.text_journal.proofs.ByteParts.{part_again}
 use Rattle.text_journal.proofs.HouseLemmas.{house_again}
 use Rattle.text_journal.proofs.Raising.{drafted, StandsFor, stands_cores, stands_cap, stands_burst, stands_itself, stands_next, stands_whole, raised_closed}
 use Rattle.text_journal.proofs.ReadBack.{IsReadable, AreReadable, all_readable, same_parts}
@@ -161,13 +162,20 @@ unfit_not cause.Before draft part unfit fits = unfit fits.before
 unfit_not cause.TooMany draft part unfit fits = let few = fits.few in absurd (omega (arith, unfit.1, few))
 unfit_not cause.Note draft part unfit fits = unfit.2 fits.spelled
 
+-- two readings of the same bytes
+abbrev read_as : {A : Type 0} → A → Result A PartCause
+read_as x = Ok x
+
+read_is : {A : Type 0} (x y : A) → read_as x ≡ read_as y → x ≡ y
+read_is x y e = cc
+
 not_next : (why : PartsCause) (draft : Drafted) (part : PartView) → IsNotNext why draft part → IsNext draft part → ⊥
-not_next cause.House draft part no next = unfit_not cause.House (raised_to part.actor draft) part no.1 next.1
-not_next (cause.Part told) draft part no next = unfit_not (cause.Part told) (raised_to part.actor draft) part no.1 next.1
-not_next cause.Actor draft part no next = no next.0
-not_next cause.Before draft part no next = unfit_not cause.Before (raised_to part.actor draft) part no.1 next.1
-not_next cause.TooMany draft part no next = unfit_not cause.TooMany (raised_to part.actor draft) part no.1 next.1
-not_next cause.Note draft part no next = unfit_not cause.Note (raised_to part.actor draft) part no.1 next.1
+not_next cause.House draft part bad next = unfit_not cause.House (raised_to part.actor draft) part bad.1 next.1
+not_next (cause.Part told) draft part bad next = unfit_not (cause.Part told) (raised_to part.actor draft) part bad.1 next.1
+not_next cause.Actor draft part bad next = bad next.0
+not_next cause.Before draft part bad next = unfit_not cause.Before (raised_to part.actor draft) part bad.1 next.1
+not_next cause.TooMany draft part bad next = unfit_not cause.TooMany (raised_to part.actor draft) part bad.1 next.1
+not_next cause.Note draft part bad next = unfit_not cause.Note (raised_to part.actor draft) part bad.1 next.1
 
 nothing_read : part_at [] ≡ Err part.Cut
 unfolding part_at
@@ -178,9 +186,9 @@ abbrev IsBad : PartsCause → Drafted → List ℕ → Type 0
 IsBad why draft bytes = (part : PartView) × (rest : List ℕ) × (part_at bytes ≡ Ok (part, rest)) × IsNotNext why draft part
 
 bad_part : (why : PartsCause) (draft : Drafted) (bytes behind : List ℕ) (part : PartView) → IsBad why draft bytes → part_at bytes ≡ Ok (part, behind) → IsNext draft part → ⊥
-bad_part why draft bytes behind part (first, rest, read, no) right next =
-    let same : first ≡ part = cc (read, right) in
-    not_next why draft part (subst (IsNotNext why draft) same no) next
+bad_part why draft bytes behind part (first, rest, read, bad) right next =
+    let same = ap (λ (p : PartView × List ℕ). p.0) (read_is (first, rest) (part, behind) (sym read ∙ right)) in
+    not_next why draft part (subst (IsNotNext why draft) same bad) next
 
 wrong_part : (why : PartsCause) (draft : Drafted) (bytes behind : List ℕ) (part : PartView) → IsWrong why draft bytes → part_at bytes ≡ Ok (part, behind) → IsNext draft part → ⊥
 wrong_part cause.House draft bytes behind part wrong right next = bad_part cause.House draft bytes behind part wrong right next
@@ -204,15 +212,17 @@ excluded [] (part ∷ two) draft made whole bytes rest why makes wrong all =
     wrong_part why draft bytes all.0 part (subst (λ (d : Drafted). IsWrong why d bytes) makes.0 (subst (IsWrong why made) makes.1 wrong)) all.1 all.2
 excluded (part ∷ one) [] draft made whole bytes rest why makes wrong all = cc (makes.1, ap part_at (sym all.1), nothing_read)
 excluded (part ∷ one) (other ∷ two) draft made whole bytes rest why makes wrong all =
-    let same : other ≡ part = cc (makes.1, all.1) in
-    let behind : all.0 ≡ makes.0 = cc (makes.1, all.1) in
+    let both = read_is (other, all.0) (part, makes.0) (sym all.1 ∙ makes.1) in
+    let same = ap (λ (p : PartView × List ℕ). p.0) both in
+    let behind = ap (λ (p : PartView × List ℕ). p.1) both in
     excluded one two (with_part part draft) made whole makes.0 rest why makes.3 wrong
     (subst (λ (p : PartView). MakeDraft two (with_part p draft) makes.0 whole []) same (subst (λ (b : List ℕ). MakeDraft two (with_part other draft) b whole []) behind all.3))
 
 house_excluded : (bytes rest : List ℕ) (why : PartsCause) (made whole : Drafted) → MakeHouse bytes made rest → IsWrong why made rest → MakeHouse bytes whole [] → ⊥
 house_excluded bytes rest why made whole one wrong two =
-    let same : two.house ≡ one.house = cc (one.numbers, two.numbers) in
-    let behind : two.behind ≡ one.behind = cc (one.numbers, two.numbers) in
+    let both = some_is (two.house, two.behind) (one.house, one.behind) (sym two.numbers ∙ one.numbers) in
+    let same = ap (λ (p : House × List ℕ). p.0) both in
+    let behind = ap (λ (p : House × List ℕ). p.1) both in
     excluded one.parts two.parts (house_draft one.house) made whole one.behind rest why one.made wrong
     (subst (λ (h : House). MakeDraft two.parts (house_draft h) one.behind whole []) same (subst (λ (b : List ℕ). MakeDraft two.parts (house_draft two.house) b whole []) behind two.made))
 

@@ -1,4 +1,4 @@
-use Rattle.std.proofs.Common.{ℕ, IsTrue, List, arith, subst, sym}
+use Rattle.std.proofs.Common.{ℕ, List, arith, subst, sym}
 use Rattle.std.specs.Prelude.{All}
 use Rattle.base_words.specs.Spelled.{IsSpelledNote}
 use Rattle.base_words.specs.Terms.{Terms}
@@ -10,7 +10,7 @@ pub returns-clause-ok : goal.returns-clause-ok
 returns-clause-ok g c =
     let draft = c.args.draft.now in
     let notes = c.args.part.now.notes.items in
-    let all = c.are_spelled.ensures.0 (subst IsTrue (sym c.if-not-are_spelled.false) tt) in
+    let all = c.are_spelled.ensures.0 c.if-not-are_spelled.false in
     let mine = subst (λ (xs : List (Note ℕ)). All (IsSpelledNote {T = ℕ} (terms_seen c.writer.result)) xs) c.deref.ensures.value all in
     let told = subst (λ (terms : Terms). All (IsSpelledNote {T = ℕ} terms) notes) c.writer.ensures mine in
     record {
