@@ -12,13 +12,13 @@ use Rattle.text_journal.specs.NoteBytes.{wide, short}
 use Rattle.text_journal.specs.ByteNotes.{note_at, wide_at, short_at}
 use Rattle.text_journal.specs.declared.part.Part.{Part}
 use Rattle.text_journal.specs.declared.part.PartError.{PartError}
-use Rattle.text_journal.specs.Parts.{PartView, sums_with, sums_behind, sums_of, head_at, notes_at, part_at, part_bytes, part_seen, parts_bytes, GivesPart, ReadsParts}
+use Rattle.text_journal.specs.Parts.{PartView, sums_with, sums_behind, sums_of, head_at, notes_at, part_at, part_bytes, GivesPart}
 use Rattle.text_journal.specs.PartLaws.{NoteIsReadBack, OnlyNotesAreRead, PartIsReadBack, OnlyPartsAreRead, SumsTellBytes}
 use Rattle.text_journal.proofs.ByteFields.{IsBytes}
 use Rattle.text_journal.proofs.ByteNotes.{note_taken, note_again}
 use Rattle.text_journal.proofs.ByteParts.{part_taken, part_again, sums-append}
 
-bytes_are : (bytes : List ℕ) → AllByRecursion (λ byte. byte < 256) bytes → IsBytes bytes
+pub bytes_are : (bytes : List ℕ) → AllByRecursion (λ byte. byte < 256) bytes → IsBytes bytes
 bytes_are [] all i = omega arith
 bytes_are (byte ∷ bytes) all zero = all.0
 bytes_are (byte ∷ bytes) all (suc i) = bytes_are bytes all.1 i
@@ -121,20 +121,3 @@ pub part_found : {X : Type 0} (view : X → PartView × List ℕ) (bytes : List 
     → IfOk read (λ x. bytes ≡ part_bytes (view x).0 ++ (view x).1)
 part_found view bytes (Ok x) fits given = part_taken bytes (view x) fits given
 part_found view bytes (Err error) fits given = tt
-
-pub reads_more : (bytes : List ℕ) (old new : List Part) (rest : List ℕ) (part : Part) (after : List ℕ) → ReadsParts bytes old new rest → rest ≡ part_bytes (part_seen part) ++ after
-    → ReadsParts bytes old (new ++ part ∷ []) after
-reads_more bytes old new rest part after so_far same =
-    let one : parts_bytes (so_far.read ++ part_seen part ∷ []) ≡ parts_bytes so_far.read ++ part_bytes (part_seen part) =
-    flat_map-append part_bytes so_far.read (part_seen part ∷ []) ∙ ap (λ (x : List ℕ). parts_bytes so_far.read ++ x) (flat_map-cons part_bytes (part_seen part) [] ∙ append-nil (part_bytes (part_seen part))) in
-    record {
-      read = so_far.read ++ part_seen part ∷ [];
-      kept = map_push part_seen new part ∙ ap (λ (x : List PartView). x ++ part_seen part ∷ []) so_far.kept ∙ append_assoc (map part_seen old) so_far.read (part_seen part ∷ []);
-      whole = so_far.whole ∙ ap (λ (x : List ℕ). parts_bytes so_far.read ++ x) same ∙ sym (append_assoc (parts_bytes so_far.read) (part_bytes (part_seen part)) after) ∙ ap (λ (x : List ℕ). x ++ after) (sym one);
-    }
-
-pub reads_none : (bytes : List ℕ) (old : List Part) → ReadsParts bytes old old bytes
-reads_none bytes old = record { read = []; kept = sym (append-nil (map part_seen old)); whole = refl }
-
-pub ends_empty : (bytes : List ℕ) (old new : List Part) (rest : List ℕ) → rest ≡ [] → ReadsParts bytes old new rest → ReadsParts bytes old new []
-ends_empty bytes old new rest none read = subst (λ (r : List ℕ). ReadsParts bytes old new r) none read

@@ -62,7 +62,7 @@ stands_next cores places burst earlier notes draft stands =
 abbrev pub closed : Drafted → Drafted
 closed draft = record { part = part.After; cores = draft.cores; cap = draft.cap; burst = draft.burst; earlier = draft.earlier; notes = draft.notes }
 
-raised_closed : (count : ℕ) (draft : Drafted) → raised count (closed draft) ≡ closed (raised count draft)
+pub raised_closed : (count : ℕ) (draft : Drafted) → raised count (closed draft) ≡ closed (raised count draft)
 raised_closed zero draft = refl
 raised_closed (suc count) draft = raised_closed count (next_actor draft)
 

@@ -10,7 +10,7 @@ use Rattle.base_words.specs.declared.note.Note.{Note}
 use Rattle.base_words.specs.Assembly.{Assembly}
 use Rattle.base_words.specs.Journal.{Journal, EachNote}
 use Rattle.base_words.specs.Limits.{most_cores, most_notes}
-use Rattle.base_words.specs.Spelled.{IsSpelledNote, AreSpelledNotes}
+use Rattle.base_words.specs.Spelled.{IsSpelled, IsSpelledNote, AreSpelledNotes}
 use Rattle.base_words.specs.Terms.{Terms}
 use Rattle.text_words.specs.Notes.{note_line}
 use Rattle.text_words.specs.Words.{words, first, others}
@@ -28,7 +28,7 @@ use Rattle.text_journal.specs.declared.fault.JournalCause.TheVariants as cause
 use Rattle.text_journal.specs.Drafts.{Drafted, empty_draft, with_text, judged, assembly_of}
 use Rattle.text_bytes.specs.Texts.{go_on, judged_from}
 use Rattle.text_journal.specs.JournalTexts.{whole, judge}
-use Rattle.text_journal.specs.ReadLaws.{TextIsReadBack}
+use Rattle.text_journal.specs.ReadLaws.{IsTellable, TextIsReadBack}
 use Rattle.text_journal.proofs.DraftLemmas.{line_read}
 use Rattle.text_journal.proofs.HeadLines.{judged_short, least_burst, form_taken, size_taken, head_feedless}
 use Rattle.text_journal.proofs.Raising.{drafted, StandsFor, stands_part, stands_cores, stands_cap, stands_burst, stands_itself, stands_next, closed, stands_whole}
@@ -90,7 +90,7 @@ pub record IsReadable (terms : Terms) (journal : Journal ℕ) : Type 0 where
   pub times : EachNote (λ note before. HoldsTimes note) journal
   pub few : length journal ≤ most_notes
 
-abbrev AreReadable : ℕ → ℕ → ℕ → ℕ → List (Journal ℕ) → Type 0
+abbrev pub AreReadable : ℕ → ℕ → ℕ → ℕ → List (Journal ℕ) → Type 0
 AreReadable actor cores places burst [] = Unit {0}
 AreReadable actor cores places burst (journal ∷ journals) = IsReadable (record { actor = actor; cores = cores; cap = places; burst = burst }) journal × AreReadable (actor + 1) cores places burst journals
 
@@ -181,8 +181,16 @@ readable_from actor cores places burst (journal ∷ journals) each =
 end_taken : (draft : Drafted) → draft.part ≡ part.Notes → judged draft end_line ≡ Ok (closed draft)
 end_taken draft at = ap (λ p. with_text p draft end_line) at
 
-same_parts : (one two : Assembly ℕ) → one.cores ≡ two.cores → one.cap ≡ two.cap → one.burst ≡ two.burst → one.journals ≡ two.journals → one ≡ two
+pub same_parts : (one two : Assembly ℕ) → one.cores ≡ two.cores → one.cap ≡ two.cap → one.burst ≡ two.burst → one.journals ≡ two.journals → one ≡ two
 same_parts one two cores_are caps_are bursts_are journals_are = λ i. record { cores = cores_are i; cap = caps_are i; burst = bursts_are i; journals = journals_are i }
+
+pub all_readable : (assembly : Assembly ℕ) → IsSpelled assembly → IsTellable assembly → AreReadable 0 assembly.cores assembly.cap assembly.burst assembly.journals
+all_readable assembly spelled tellable = readable_from 0 assembly.cores assembly.cap assembly.burst assembly.journals (λ place within.
+    let count = spelled.journals in
+    let here : 0 + place ≡ place = omega arith in
+    let actor : place ≤ assembly.cores = omega (arith, within, count) in
+    subst (λ n. IsReadable (record { actor = n; cores = assembly.cores; cap = assembly.cap; burst = assembly.burst }) (unwrap_or (slice_get assembly.journals place) [])) (sym here)
+    (record { spelled = spelled.notes place actor; times = tellable.times place actor; few = tellable.few place actor }))
 
 pub read_back : TextIsReadBack
 unfolding journal_text
@@ -195,11 +203,7 @@ read_back assembly spelled tellable =
     let some = limits.some_core in
     let few = limits.few_cores in
     let count = spelled.journals in
-    let each : AreReadable 0 cores places burst journals = readable_from 0 cores places burst journals (λ place within.
-    let here : 0 + place ≡ place = omega arith in
-    let actor : place ≤ cores = omega (arith, within, count) in
-    subst (λ n. IsReadable (record { actor = n; cores = cores; cap = places; burst = burst }) (unwrap_or (slice_get journals place) [])) (sym here)
-    (record { spelled = spelled.notes place actor; times = tellable.times place actor; few = tellable.few place actor })) in
+    let each = all_readable assembly spelled tellable in
     let body = journals_taken cores places burst [] (drafted cores places burst [] []) some few journals (omega (arith, count)) (stands_itself cores places burst [] [] (omega arith)) each in
     let final = closed body.0 in
     let at = stands_part body.2 in

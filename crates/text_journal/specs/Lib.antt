@@ -20,3 +20,6 @@ pub mod ByteNotes
 pub mod Parts
 pub mod PartLaws
 pub mod BadParts
+pub mod Houses
+pub mod HouseLaws
+pub mod BadHouses

@@ -1,5 +1,5 @@
 -- A part of a journal as bytes: a head, notes of one actor, and two sums.
-use Rattle.std.specs.Prelude.{◌≡◌, ℕ, zero, suc, ◌+◌, ◌%◌, ◌^◌, ◌==◌, ◌&&◌, List, [], ◌∷◌, ◌++◌, codes, length, map, take, drop, flat_map, Option, Some, None, Result, Ok, Err, nat_lt, if◌then◌else◌}
+use Rattle.std.specs.Prelude.{◌≡◌, ℕ, zero, suc, ◌+◌, ◌%◌, ◌^◌, ◌==◌, ◌&&◌, List, [], ◌∷◌, ◌++◌, codes, length, take, drop, flat_map, Option, Some, None, Result, Ok, Err, nat_lt, if◌then◌else◌}
 use Rattle.std.specs.Str.{bytes_eq}
 use Rattle.base_words.specs.declared.note.Note.{Note}
 use Rattle.text_journal.specs.declared.part.Head.{Head}
@@ -7,8 +7,6 @@ use Rattle.text_journal.specs.declared.part.Part.{Part}
 use Rattle.text_journal.specs.declared.part.PartCause.{PartCause}
 use Rattle.text_journal.specs.declared.part.PartError.{PartError}
 use Rattle.text_journal.specs.declared.part.PartError.TheVariants as errors
-use Rattle.text_journal.specs.declared.part.PartsError.{PartsError}
-use Rattle.text_journal.specs.declared.part.PartsError.TheVariants as stops
 use Rattle.text_journal.specs.declared.part.PartCause.TheVariants as cause
 use Rattle.text_journal.specs.NoteBytes.{wide, note_bytes}
 use Rattle.text_journal.specs.ByteNotes.{Reader, both, pair, byte_at, wide_at, note_at}
@@ -117,19 +115,3 @@ Fails (errors.Faulty told) read = read ≡ Err told
 abbrev pub GivesPart : {X Y : Type 0} → (X → Y) → Result X PartError → Result Y PartCause → Type 0
 GivesPart view (Ok found) read = read ≡ Ok (view found)
 GivesPart view (Err error) read = Fails error read
-
--- ---- parts one behind the other
-
-abbrev pub parts_bytes : List PartView → List ℕ
-parts_bytes parts = flat_map part_bytes parts
-
--- some parts were read from the front of the bytes, and stand behind those that were there; the rest is what stands behind them
-pub record ReadsParts (bytes : List ℕ) (old new : List Part) (rest : List ℕ) : Type 0 where
-  pub read : List PartView
-  pub kept : map part_seen new ≡ map part_seen old ++ read
-  pub whole : bytes ≡ parts_bytes read ++ rest
-
--- the reading stopped where no part stands, for this cause, or for want of memory
-abbrev pub StopsAt : PartsError → List ℕ → List Part → List Part → Type 0
-StopsAt stops.Memory bytes old new = (rest : List ℕ) × ReadsParts bytes old new rest
-StopsAt (stops.Faulty place told) bytes old new = (rest : List ℕ) × ReadsParts bytes old new rest × (place + length rest ≡ length bytes) × (part_at rest ≡ Err told)

@@ -5,16 +5,20 @@ ghost use Rattle.base_words.specs.Limits.{most_cores, most_notes};
 ghost use Rattle.text_words.specs.Words.{words};
 ghost use Rattle.text_journal.specs.Drafts as spec;
 ghost use Rattle.text_journal.specs.Handed.{Handed, HasHanded, IsBegun, IsLast, handed_on, nothing_handed};
+ghost use Rattle.text_journal.specs.Houses.{house_draft};
 ghost use Rattle.text_journal.specs.Passing.{with_handed};
+ghost use Rattle.note_journal.specs.Writers.{terms_seen};
 ghost use Rattle.text_bytes.specs.Faults.{IfCause};
 
 use crate::fault::JournalCause;
 use crate::field::number_in;
 use crate::note::note_of;
+use crate::parts::House;
 use crate::phrase::last;
 use crate::taker::NoteTaker;
 use base_sealed::History;
 use base_words::{MOST_BURST, MOST_CAPACITY, MOST_CORES, MOST_NOTES, Note};
+use note_journal::spelled::Writer;
 use std::marker::Model;
 use text_bytes::Stop;
 use text_words::Words;
@@ -92,6 +96,49 @@ impl<T: NoteTaker> Draft<T> {
             earlier: History::new(),
             notes: History::new(),
         }
+    }
+
+    /// Behind the numbers of a house, with no note.
+    pub(crate) fn begun(taker: T, house: House) -> Result<Draft<T>, Stop<JournalCause>>
+        requires has { T.has taker nothing_handed }
+        requires some { 1 ≤ house.cores }
+        requires few { house.cores ≤ most_cores }
+        ensures ok { IfOk result (λ draft. draft ≡ house_draft house) }
+        ensures faulty { IfErr result (IfCause (λ cause. ⊥)) }
+    {
+        let mut draft = Draft {
+            part: Part::Size,
+            cores: 1,
+            cap: 1,
+            burst: 1,
+            actor: 0,
+            count: 0,
+            taker: Some(taker),
+            earlier: History::new(),
+            notes: History::new(),
+        };
+        draft.begin(house.cores, house.cap, house.burst)?;
+        Ok(draft)
+    }
+
+    /// Whose notes come now, and what holds of the whole house.
+    pub(crate) fn writer(&self) -> Writer
+        ensures { terms_seen result ≡ record { actor = length self.now.earlier; cores = self.now.cores; cap = self.now.cap; burst = self.now.burst } }
+    {
+        Writer {
+            actor: self.actor,
+            cores: self.cores,
+            cap: self.cap,
+            burst: self.burst,
+        }
+    }
+
+    /// How many notes of that actor came.
+    pub(crate) fn count(&self) -> u32
+        ensures value { result ≡ length self.now.notes }
+        ensures most { result ≤ most_notes }
+    {
+        self.count
     }
 
     /// What comes next.
@@ -205,7 +252,7 @@ impl<T: NoteTaker> Draft<T> {
     }
 
     /// Hands the next note of the actor to the taker.
-    fn hand(&mut self, note: &Note<u64>) -> Result<(), Stop<JournalCause>>
+    pub(crate) fn hand(&mut self, note: &Note<u64>) -> Result<(), Stop<JournalCause>>
         requires part { IsBegun self.old.part }
         requires few { length self.old.notes < most_notes }
         ensures ok { OnOk result (self.new ≡ with_handed note.now self.old) }
@@ -224,7 +271,7 @@ impl<T: NoteTaker> Draft<T> {
     }
 
     /// Goes on to this actor. The journals of those before it are whole.
-    fn raise_to(&mut self, actor: u8) -> Result<(), Stop<JournalCause>>
+    pub(crate) fn raise_to(&mut self, actor: u8) -> Result<(), Stop<JournalCause>>
         requires part { IsBegun self.old.part }
         requires within { actor ≤ self.old.cores }
         ensures ok { OnOk result (self.new ≡ spec.raised_to actor self.old) }

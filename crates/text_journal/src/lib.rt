@@ -16,6 +16,7 @@ pub mod laws;
 pub mod note;
 pub mod note_bytes;
 pub mod part;
+pub mod parts;
 pub mod phrase;
 pub mod read_laws;
 mod reader;

@@ -1,7 +1,8 @@
 //! Parts of a journal as bytes.
 
-ghost use Rattle.std.specs.Prelude.{◌≡◌, ◌<◌, ◌++◌, ◌^◌, [], IfErr, IfOk, OnOk, drop, length};
+ghost use Rattle.std.specs.Prelude.{◌≡◌, ◌<◌, ◌++◌, ◌^◌, IfOk, OnOk, drop, length};
 ghost use Rattle.text_journal.specs.ByteNotes.{Gives};
+ghost use Rattle.text_journal.specs.PartLaws.{HasHead};
 ghost use Rattle.text_journal.specs.Parts as spec;
 
 use crate::byte_fields::{byte_at, wide_at};
@@ -12,7 +13,7 @@ use std::alloc::{AllocError, AllocFailed, Global};
 use text_words::field::is_word;
 
 /// What is wrong with a part. Of several causes the first in this order is told.
-#[derive(Clone, Copy, PartialEq, Eq, Debug)]
+#[derive(Clone, Copy)]
 pub enum PartCause {
     /// The bytes end inside it.
     Cut,
@@ -25,21 +26,12 @@ pub enum PartCause {
 }
 
 /// Why no part is read.
-#[derive(Debug, Drop)]
+#[derive(Drop)]
 pub enum PartError {
     /// There is no memory for its notes.
     Memory,
     /// It is faulty.
     Faulty(PartCause),
-}
-
-/// Why parts are not read to their end.
-#[derive(Clone, Copy, PartialEq, Eq, Debug)]
-pub enum PartsError {
-    /// There is no memory.
-    Memory,
-    /// From this byte on no part stands, for this cause.
-    Faulty(u64, PartCause),
 }
 
 /// Whose notes they are, how many notes of that actor came before, how many they are, and how many bytes they have.
@@ -70,34 +62,6 @@ impl<T: Drop> From<AllocFailed<T>> for PartError {
     }
 }
 
-/// Reads parts that stand one behind the other, to the end of the bytes, and adds them to others.
-///
-/// # Errors
-///
-/// `Faulty` with the first byte from which on no part stands, or `Memory`. The parts before it are added.
-pub fn read_parts(alloc: Global, bytes: &[u8], parts: &mut Vec<Part>) -> Result<(), PartsError>
-    ensures ok { OnOk result (spec.ReadsParts bytes.now parts.old.items parts.new.items []) }
-    ensures err { IfErr result (λ error. spec.StopsAt error bytes.now parts.old.items parts.new.items) }
-{
-    let mut rest = bytes;
-    while !rest.is_empty() {
-        match part_at(alloc, rest) {
-            Ok((part, after)) => {
-                if parts.push(part).is_err() {
-                    return Err(PartsError::Memory);
-                }
-                rest = after;
-            }
-            Err(PartError::Memory) => return Err(PartsError::Memory),
-            Err(PartError::Faulty(cause)) => {
-                let place = (bytes.len() - rest.len()) as u64;
-                return Err(PartsError::Faulty(place, cause));
-            }
-        }
-    }
-    Ok(())
-}
-
 /// Puts a part behind the bytes of a vector. It asks for no memory if the vector has room. Behind an `Err` the vector's end says nothing.
 ///
 /// # Errors
@@ -110,7 +74,8 @@ pub fn put_part(
     out: &mut Vec<u8>,
 ) -> Result<(), AllocError>
     requires { length notes.now < 2 ^ 32 }
-    ensures { OnOk result (out.new.items ≡ out.old.items ++ spec.part_bytes (record { actor = actor; before = before; notes = notes.now })) }
+    ensures bytes { OnOk result (out.new.items ≡ out.old.items ++ spec.part_bytes (record { actor = actor; before = before; notes = notes.now })) }
+    ensures head { HasHead (spec.head_of (record { actor = actor; before = before; notes = notes.now })) }
 {
     let start = out.len();
     let head = Head {

@@ -1,8 +1,10 @@
-//! A text and the journals that it tells are one, and so are a part and its bytes.
+//! A text and the journals that it tells are one, and so are parts and their bytes.
 
+ghost use Rattle.text_journal.specs.BadHouses.{BadHousesAreRefused};
 ghost use Rattle.text_journal.specs.BadParts.{BadPartsAreRefused};
 ghost use Rattle.text_journal.specs.BadPasses.{BadPassesAreRefused};
 ghost use Rattle.text_journal.specs.FaultyForms.{FaultyForms};
+ghost use Rattle.text_journal.specs.HouseLaws.{FaultyAreNoJournals, JournalsAreReadBack, OnlyJournalsAreRead};
 ghost use Rattle.text_journal.specs.PartLaws.{NoteIsReadBack, OnlyNotesAreRead, OnlyPartsAreRead, PartIsReadBack, SumsTellBytes};
 ghost use Rattle.text_journal.specs.ReadLaws.{FirstLinesTell, OnlyTextsAreRead, TextIsReadBack};
 
@@ -43,4 +45,16 @@ pub fn bytes_are_read_back()
 /// Bytes that are no part are refused.
 pub fn bad_parts_are_refused()
     ensures { BadPartsAreRefused }
+{}
+
+/// Journals and their bytes are one: a head and parts. Bytes with a fault are no journals.
+pub fn houses_are_read_back()
+    ensures again { JournalsAreReadBack }
+    ensures only { OnlyJournalsAreRead }
+    ensures faulty { FaultyAreNoJournals }
+{}
+
+/// A part that comes twice, one that is missing or cut, and an actor that goes back are refused.
+pub fn bad_houses_are_refused()
+    ensures { BadHousesAreRefused }
 {}
