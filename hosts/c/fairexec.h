@@ -500,10 +500,10 @@ uint32_t fx_seat_copy(fx_seat *seat, uint64_t from, uint64_t most, uint8_t *byte
 /*
  * Copies the same notes as a part in bytes, in place of their text: its head, which says the actor, how many of its notes came before, how many are
  * in the part and how many bytes these have; the notes, each of 2 to 27 bytes; and two sums, by which damage is found. `before` is how many notes of
- * the actor came before the one at `from`: those that it forgot or passed on, and `from`. The host counts them, and an audit tests that none is
- * missing. Of `most` notes a part has at most 45 + 27 * most bytes, of none 45.
+ * the actor came before the one at `from`: those that it forgot or passed on, and `from`. The host counts them, and who reads the parts finds
+ * whether one is missing. Of `most` notes a part has at most 45 + 27 * most bytes, of none 45.
  * The bytes `fxh1`, the count of the cores, the burst and the places (1, 1 and 2 bytes, the low one first), and behind them all parts of core 0, those
- * of each further actor by its number, each actor's in their order, are the whole journals, which `fairexec audit` judges.
+ * of each further actor by its number, each actor's in their order, are the whole journals. The library text_journal reads them, and no program does yet.
  * FX_EMPTY; FX_NO_MEMORY; FX_SHORT, as fx_seat_copy; FX_OK.
  */
 uint32_t fx_seat_copy_bytes(fx_seat *seat, uint64_t before, uint64_t from, uint64_t most, uint8_t *bytes, size_t room, uint64_t *count, uint64_t *notes) FX_NOT_NULL;

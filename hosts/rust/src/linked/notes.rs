@@ -44,7 +44,7 @@ pub enum Journal {
 /// let ticket = outside.submit(0, 0, 20_u64).map_err(|(error, _)| error)?;
 /// while cores[0].round(|job, _| Step::Done(2 * *job))? {}
 /// outside.wait_for(&ticket)?;
-/// // So far these are the journals: `fairexec audit` reads them.
+/// // So far these are the journals.
 /// let mut all = config.head().to_vec();
 /// cores[0].pass_on(&mut all)?;
 /// outside.pass_on(&mut all)?;
