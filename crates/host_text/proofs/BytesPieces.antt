@@ -16,9 +16,13 @@ follow-append : (actor before : ℕ) (parts : List PartView) (notes : List (Note
     part.before ≡ before + length notes → Follow actor before (parts ++ part ∷ []) (notes ++ part.notes)
 follow-append actor before [] notes part none is_actor is_before =
     (is_actor, (omega (arith, is_before, ap (λ notes. length notes) none)), [], ap (λ notes. notes ++ part.notes) none ∙ sym (append-nil part.notes), refl)
-follow-append actor before (first ∷ parts) notes part (of_actor, of_before, rest, whole, follow) is_actor is_before =
-    (of_actor, of_before, rest ++ part.notes, ap (λ notes. notes ++ part.notes) whole ∙ append_assoc first.notes rest part.notes,
-    follow-append actor (before + length first.notes) parts rest part follow is_actor (omega (arith, is_before, ap (λ notes. length notes) whole, length-append first.notes rest)))
+follow-append actor before (first ∷ parts) notes part (of_actor, of_before, rest, whole, follow) is_actor is_before = (
+  of_actor,
+  of_before,
+  rest ++ part.notes,
+  ap (λ notes. notes ++ part.notes) whole ∙ append_assoc first.notes rest part.notes,
+  follow-append actor (before + length first.notes) parts rest part follow is_actor (omega (arith, is_before, ap (λ notes. length notes) whole, length-append first.notes rest)),
+)
 
 module _ (actor gone from most notes : ℕ) (journal : JournalView ℕ) (joined more : List ℕ) (front : IsFrontInBytes actor gone from journal joined)
     (piece : IsPiece actor (Bytes (gone + from)) from most journal notes more) where
