@@ -1,5 +1,5 @@
 -- What no piece in bytes may be, each refused by the definition that judges it.
-use Rattle.std.proofs.Common.{ap, sym, subst, ◌∙◌, append-nil}
+use Rattle.std.proofs.Common.{ap, sym, ◌∙◌, append-nil}
 use Rattle.std.specs.Prelude.{◌≡◌, ℕ, List, [], ◌∷◌, drop, reverse, take}
 use Rattle.base_words.specs.Journal.{Journal}
 use Rattle.base_words.specs.declared.note.Note.{Note}
