@@ -2,7 +2,7 @@
 
   tests/tested-edits [--jobs N] [--minutes N] [NAME..]
 
-NAME..       the edits of these crates alone; without a name those of every crate
+NAME..       the edits of these crates alone, or CRATE/EDIT; without a name those of every crate
 --jobs N     this many side by side (1 if left out; each takes up to 2 GB)
 --minutes N  begins no other edit once N minutes have passed, and names those that are left. One comes whose crate, tests or edits
              changed last (what isn't committed, and then by the time of the commit), then one in turn, and so on. The turn goes
@@ -171,9 +171,12 @@ def main(words):
             names.append(word)
     here = sorted(it.name for it in (ROOT / "crates").iterdir())
     for name in names:
-        if name not in here:
-            stop(f"tests/tested-edits: no crate {name}")
-    tries = [Try(edit.tests, crate, edit) for crate in names or here for edit in edits_of(crate, "edits") if edit.tests]
+        if name.partition("/")[0] not in here:
+            stop(f"tests/tested-edits: no crate {name.partition('/')[0]}")
+    asked = [name.partition("/") for name in names or here]
+    tries = [Try(edit.tests, crate, edit) for crate, _, one in asked for edit in edits_of(crate, "edits") if edit.tests and one in ("", edit.name)]
+    if not tries and names:
+        stop("tests/tested-edits: no edit of these names has a line 'tests:'")
     for it in tries:
         if it.tests not in layers():
             stop(f"tests/tested-edits: {it.edit.place()}: no layer {it.tests}")

@@ -257,8 +257,8 @@ def try_compaction(program, room, check):
                 client.sendall(command("SET", f"key{key}", b"%d." % count + b"y" * 8000))
             for _ in range(8):
                 client.recv(5)
-        # How soon that comes to its end, and so how much was written meanwhile, depends on the disk.
-        deadline = time.monotonic() + 30
+        # How soon that comes to its end depends on the disk and on what else the machine does. A compaction that was lost never ends.
+        deadline = time.monotonic() + 300
         while bytes_of(folder / "of-1/0") > 8 << 20 and time.monotonic() < deadline:
             ask(client, command("SET", "key0", b"299." + b"y" * 8000), b"+OK\r\n")
             time.sleep(0.02)
