@@ -9,12 +9,6 @@ more_than_none : {A : Type 0} (items : List A) (item : A) → items ++ item ∷ 
 more_than_none items item none = absurd (omega (arith, ap length none, length-append items (item ∷ [])))
 
 module _ {T : Type 0} where
-  -- a core may write the notes of a pick and of a settling, and those of a post while it polls
-  pub picks_act : (least room : ℕ) (name : JobId) (was_started : Bool) (queue runtime : ℕ) (before : Journal T) → EachNote (MayAct least room) before →
-      EachNote (MayAct least room) (poll_note name was_started ∷ writes.Pick queue runtime ∷ before)
-  picks_act least room name false queue runtime before each = (tt, (tt, each))
-  picks_act least room name true queue runtime before each = (tt, (tt, each))
-
   -- a poll has begun behind its note
   pub begins_poll : (name : JobId) (was_started : Bool) (before : Journal T) → IsPolling (poll_note name was_started ∷ before)
   begins_poll name false before = more_than_none (names_but name (jobs_out before)) name

@@ -3,7 +3,7 @@ use Rattle.run_worker.proofs.Names.{ActsUnlessRefused, ap, arith, EndedView, Has
 use Rattle.run_worker.proofs.Names.{◌≡◌, ◌⊎◌}
 use Rattle.base_words.specs.declared.note.Note.TheVariants.{CoreClosed, Pick, Start, Took, Yield}
 use Rattle.base_words.specs.declared.order.Mode.TheVariants.{Return}
-use Rattle.run_worker.proofs.ServesRefused.{always, has, never, silent, twice, unasked}
+use Rattle.run_worker.proofs.ServesRefused.{always, has, never, silent, taker, twice, unasked}
 use Rattle.run_worker.proofs.SmallWorkers.{SmallWorker, board_of, linked_of, one_note}
 use Rattle.run_worker.proofs.Supplied.{hands_notes}
 
@@ -50,7 +50,7 @@ module _ (meaning : Meaning ℕ ℕ) (reads : ℕ → ℕ → ℕ → Type 0) (a
       is_kept (inr refused) = refused
 
   -- its board doesn't tell its last note
-  ends_unpublished : (old : SmallWorker) → ServesToItsEnd meaning reads asked has never silent old (ended_with one_note (board_of [] 1)) → ⊥
+  ends_unpublished : (old : SmallWorker) → ServesToItsEnd meaning reads asked (taker never silent) old (ended_with one_note (board_of [] 1)) → ⊥
   ends_unpublished old ended = is_behind ended.shows
     where
       notes : one_note ≡ ended.last.linked.recorded.journal.notes
@@ -62,5 +62,5 @@ module _ (meaning : Meaning ℕ ℕ) (reads : ℕ → ℕ → ℕ → Type 0) (a
       is_behind (inr (inr many, same)) = let few = ap (λ (notes : Journal ℕ). length notes) notes in omega (arith, many, few)
 
   -- its sink refused the note, and isn't asked once more
-  ends_unasked : (old : SmallWorker) → ServesToItsEnd meaning reads asked has always twice old (ended_with [] (board_of one_note 1)) → ⊥
+  ends_unasked : (old : SmallWorker) → ServesToItsEnd meaning reads asked (taker always twice) old (ended_with [] (board_of one_note 1)) → ⊥
   ends_unasked old ended = unasked ended.last.sink [] ended.hands.asked

@@ -93,6 +93,6 @@ module _ {J T M G : Type 0} (meaning : Meaning J T) (tells : M → ℕ → M →
 
 module _ {J T C G : Type 0} (meaning : Meaning J T) (reads : C → ℕ → C → Type 0) (asked : G → ℕ → JobId → G → Type 0) where
   -- no turn without a look, or one for which there was no work
-  pub alone_none : (turns left : ℕ) (old new : RoundView J T C G) → TurnsAlone meaning reads asked turns old false left new → WritesFew 0 old.served new.served
-  alone_none turns left old new (inl none) = subst (λ (view : RoundView J T C G). WritesFew 0 old.served view.served) (sym none.2) (few_none 0 old.served)
-  alone_none turns left old new (inr turned) = turned_none meaning (TimesNext reads) asked old.watch new.watch old.gate new.gate old.served new.served turned.1 turned.2
+  pub alone_none : (old new : RoundView J T C G) → TurnsAlone meaning reads asked old false new → WritesFew 0 old.served new.served
+  alone_none old new (inl none) = subst (λ (view : RoundView J T C G). WritesFew 0 old.served view.served) (sym none.2) (few_none 0 old.served)
+  alone_none old new (inr turned) = turned_none meaning (TimesNext reads) asked old.watch new.watch old.gate new.gate old.served new.served turned.1 turned.2

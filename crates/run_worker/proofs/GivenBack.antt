@@ -1,25 +1,12 @@
 -- What a worker gives back has ended.
-use Rattle.run_worker.proofs.Names.{ActsAsItMay, ActsByCommand, ActsUnlessRefused, all_passed, ap, arith, Bool, EachNote, EndsView, false, HandsOn, has_passed, HasEnded, inl, inr, IsBetweenTurns, IsDrained, IsLinked, IsOpenedOver, IsServed}
-use Rattle.run_worker.proofs.Names.{IsShownWhole, Journal, least_free, least_room, length, LinkedView, MayAct, Meaning, PassesTo, places_of, RecordedView, refl, ServedView, ShownView, subst, sym, true, ℕ, [], ◌+◌, ◌∙◌, ◌≡◌, ◌≤◌}
+use Rattle.run_worker.proofs.Names.{ActsAsItMay, ActsByCommand, ActsUnlessRefused, all_passed, ap, arith, Bool, EachNote, false, HandsOn, has_passed, HasEnded, inl, inr, IsBetweenTurns, IsDrained, IsLinked, IsServed}
+use Rattle.run_worker.proofs.Names.{IsShownWhole, Journal, least_free, length, LinkedView, MayAct, Meaning, PassesTo, places_of, RecordedView, refl, ServedView, ShownView, subst, sym, true, ℕ, ◌+◌, ◌≡◌}
 use Rattle.std.proofs.Common.{Option}
-use Rattle.run_worker.proofs.Acting.{command_acts}
 use Rattle.run_worker.proofs.Published.{whole_runs}
 use Rattle.run_worker.proofs.Spare.{places_some}
 use Rattle.run_worker.proofs.Supplied.{hands_least, hands_notes, hands_places, hands_runs}
 
 module _ {J T S : Type 0} (has : S → Journal T) (refused : S → ℕ → Type 0) where
-  -- a worker that was just opened has passed on nothing
-  pub opened_passes : (cores cap burst room count : ℕ) (ends : EndsView J T) (served : ServedView J T) (sink : S) → IsOpenedOver cores cap burst room ends served.linked → least_room cores cap burst + count ≤ room →
-      has sink ≡ [] → served.ending ≡ false → PassesTo has refused served sink
-  opened_passes cores cap burst room count ends served sink over enough none going = record {
-    passed = none ∙ sym over.of.none_passed;
-    places =
-        let least : least_free served.linked.recorded.core.cores served.linked.recorded.cap served.linked.recorded.core.bursts.burst ≡ least_free cores cap burst = ap (λ terms. least_free terms.cores terms.cap terms.burst) over.of.terms in
-        let passed : length served.linked.recorded.journal.passed ≡ 0 = ap length over.of.none_passed in
-        omega (arith, least, passed, over.of.room_is, enough);
-    refuses = λ ends. cc;
-  }
-
   module _ {asks : S → Option ℕ} (served : ServedView J T) (new : LinkedView J T) (sink after : S) (passes : PassesTo has refused served sink) (did : HandsOn has refused asks served.linked sink new after) where
     -- at its end the core acts as it may by the room of the journal when its sink refused
     acts_behind : (ending : Bool) → served.ending ≡ ending → ActsAsItMay ending served.linked.recorded → ActsUnlessRefused refused after new.recorded
@@ -57,10 +44,3 @@ module _ {J T S : Type 0} (refused : S → ℕ → Type 0) (sink : S) (view : Re
   pub never_short : ActsUnlessRefused refused sink view → ((count : ℕ) → refused sink count → ⊥) → ActsByCommand view.journal.notes
   never_short (inl acts) never = acts
   never_short (inr did) never = absurd (never did.0 did.1)
-
-  -- a sink that takes nothing refuses at the start alone, so a core that closed by itself did it where its own journal was short
-  pub whole_acts : ActsUnlessRefused refused sink view → view.journal.passed ≡ [] → ((count : ℕ) → refused sink count → count ≡ 0) → ActsAsItMay true view
-  whole_acts (inl acts) none start = command_acts _ _ view.journal.notes acts
-  whole_acts (inr did) none start =
-      let room : did.0 + places_of view.journal ≡ view.journal.room = let passed : length view.journal.passed ≡ 0 = ap length none in omega (arith, start did.0 did.1, passed) in
-      subst (λ room. EachNote (MayAct (least_free view.core.cores view.cap view.core.bursts.burst) room) view.journal.notes) room did.2

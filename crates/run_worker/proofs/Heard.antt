@@ -67,12 +67,6 @@ module _ {J T : Type 0} where
     others = many.others;
   }
 
-  pub first_unheard : (old : ServedView J T) → HearsFirst 0 old old
-  first_unheard old = record {
-    each = λ same sender low. absurd (omega (arith, low));
-    rest = λ same sender there. refl;
-  }
-
   -- the next sender is heard
   pub next_heard : (count : ℕ) (old middle new : ServedView J T) {one two : Bool} → StepsServed old one middle → StepsServed middle two new → HearsFirst count old middle → HearsSome count middle new → HearsFirst (count + 1) old new
   next_heard count old middle new first next heard some = record {
@@ -131,9 +125,6 @@ module _ {J T : Type 0} where
 
   pub ended_collects : (core : ℕ) (old new : ServedView J T) → new.ending ≡ true → CollectsNext core old new
   ended_collects core old new ended = record { all = λ not. cc; others = λ not. cc }
-
-  pub none_collected : (old : ServedView J T) → CollectsFirst 0 old
-  none_collected old not core low = absurd (omega (arith, low))
 
   pub next_collected : (count : ℕ) (middle new : ServedView J T) {two : Bool} → StepsServed middle two new → CollectsFirst count middle → CollectsNext count middle new → CollectsFirst (count + 1) new
   next_collected count middle new step first next not core low =

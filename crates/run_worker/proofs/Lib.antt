@@ -13,8 +13,6 @@ mod LooksRefused
 mod PollsRefused
 mod QueuesRefused
 mod ActsRefused
-mod AsksRefused
-mod RestsRefused
 mod ParksRest
 mod WatchesRefused
 pub mod Noted

@@ -1,21 +1,15 @@
 -- Which watch and which gate serve a turn, and what a look at the room leaves.
-use Rattle.run_worker.proofs.Names.{ap, arith, Bool, core_mode_told, count_told, Grows, HasShutGates, in_at, IsSome, JobId, Journal, KeepsTaken, latest_told, LinkedView, LooksAtRoom, Meaning, None, Note, Option, or_else, refl, ServedView}
-use Rattle.run_worker.proofs.Names.{ShutsClosed, Some, StaysLinked, subst, sym, TurnsWith, WatchView, ℕ, [], ◌++◌, ◌∷◌, ◌≡◌}
+use Rattle.run_worker.proofs.Names.{arith, Bool, core_mode_told, count_told, Grows, HasShutGates, IsSome, JobId, Journal, latest_told, LinkedView, Meaning, None, Note, Option, or_else, refl, ServedView}
+use Rattle.run_worker.proofs.Names.{ShutsClosed, Some, StaysLinked, subst, sym, TakesTurn, TimesNext, WatchView, ℕ, [], ◌++◌, ◌∷◌, ◌≡◌}
 
 module _ {J T C G : Type 0} (meaning : Meaning J T) (reads : C → ℕ → C → Type 0) (asked : G → ℕ → JobId → G → Type 0) where
   -- the same watch and the same gates
   pub turns_same : (watch own later : WatchView C) (before here after there : G) (old new : ServedView J T) (some : Bool) → own ≡ watch → here ≡ before → there ≡ after →
-      TurnsWith meaning reads asked own later here there old some new → TurnsWith meaning reads asked watch later before after old some new
+      TakesTurn meaning (TimesNext reads) asked own later here there old some new → TakesTurn meaning (TimesNext reads) asked watch later before after old some new
   turns_same watch own later before here after there old new some watch_is here_is there_is turns =
-      subst (λ watch. TurnsWith meaning reads asked watch later before after old some new) watch_is
-      (subst (λ gate. TurnsWith meaning reads asked own later gate after old some new) here_is
-      (subst (λ gate. TurnsWith meaning reads asked own later here gate old some new) there_is turns))
-
-module _ {J T : Type 0} where
-  -- a worker that only looked at its room, and isn't at its end behind that, has delivered nothing
-  pub looked_keeps : (old new : ServedView J T) → LooksAtRoom old new → new.ending ≡ old.ending → KeepsTaken old.linked new.linked
-  looked_keeps old new looks same sender =
-      ap (λ (view : ServedView J T). (in_at sender view.linked.ends).inward.taken) (looks.same same)
+      subst (λ watch. TakesTurn meaning (TimesNext reads) asked watch later before after old some new) watch_is
+      (subst (λ gate. TakesTurn meaning (TimesNext reads) asked own later gate after old some new) here_is
+      (subst (λ gate. TakesTurn meaning (TimesNext reads) asked own later here gate old some new) there_is turns))
 
 some_else : {A : Type 0} (first second : Option A) → IsSome second → IsSome (or_else first second)
 some_else None second is = is

@@ -43,24 +43,24 @@ is_kept false came last told is = cc (is)
 
 module _ (meaning : Meaning ℕ ℕ) (reads : ℕ → ℕ → ℕ → Type 0) (asked : ℕ → ℕ → JobId → ℕ → Type 0) where
   -- a look leaves five turns
-  leaves_five_turns : (old new : RoundView ℕ ℕ ℕ ℕ) (some : Bool) → LooksAtAll meaning reads asked old some 5 new → ⊥
-  leaves_five_turns old new some looks = are_other_turns _ looks.plans
+  leaves_five_turns : (old : RoundView ℕ ℕ ℕ ℕ) (served : ServedView ℕ ℕ) (watch : WatchView ℕ) (some : Bool) → LooksAtAll meaning reads asked old some (round_view served watch 0 5) → ⊥
+  leaves_five_turns old served watch some looks = are_other_turns _ looks.plans
 
   -- a look to which something came leaves turns though its core is closed, so that its gates stay open
-  passes_its_gates : (old : RoundView ℕ ℕ ℕ ℕ) (some : Bool) (looks : LooksAtAll meaning reads asked old some 16 (round_view (record { linked = noted half_shut; ending = false }) (watch_view 0 None 0) 0)) → looks.came ≡ true → ⊥
+  passes_its_gates : (old : RoundView ℕ ℕ ℕ ℕ) (some : Bool) (looks : LooksAtAll meaning reads asked old some (round_view (record { linked = noted half_shut; ending = false }) (watch_view 0 None 0) 0 16)) → looks.came ≡ true → ⊥
   passes_its_gates old some looks came = none_is_left looks.worked looks.back (subst (λ one. 16 ≡ turns_after (leaves_turns looks.worked (one || looks.back) true)) came looks.plans)
 
   -- the time of polls isn't counted anew behind a look
-  keeps_the_time : (old : RoundView ℕ ℕ ℕ ℕ) (served : ServedView ℕ ℕ) (some : Bool) (turns : ℕ) → LooksAtAll meaning reads asked old some turns (round_view served (watch_view 0 None 7) 0) → ⊥
+  keeps_the_time : (old : RoundView ℕ ℕ ℕ ℕ) (served : ServedView ℕ ℕ) (some : Bool) (turns : ℕ) → LooksAtAll meaning reads asked old some (round_view served (watch_view 0 None 7) 0 turns) → ⊥
   keeps_the_time old served some turns looks = let taken = ap (λ (watch : WatchView ℕ). watch.taken) looks.forgets in omega (arith, taken)
 
   -- a look behind which a worker sleeps keeps the reading, so that the next poll pays for the sleep
-  sleep_is_charged : (old : RoundView ℕ ℕ ℕ ℕ) (served : ServedView ℕ ℕ) (turns : ℕ) → LooksAtAll meaning reads asked old false turns (round_view served (watch_view 0 (Some 3) 0) 0) → ⊥
+  sleep_is_charged : (old : RoundView ℕ ℕ ℕ ℕ) (served : ServedView ℕ ℕ) (turns : ℕ) → LooksAtAll meaning reads asked old false (round_view served (watch_view 0 (Some 3) 0) 0 turns) → ⊥
   sleep_is_charged old served turns looks = is_kept looks.worked _ looks.timed.last looks.tells (ap (λ (watch : WatchView ℕ). watch.last) looks.forgets)
 
   -- it parks behind two looks, or behind none
-  looks_twice : (bells rung : BellsView) (old new : RoundView ℕ ℕ ℕ ℕ) (some : Bool) (turns : ℕ) → LooksAgain meaning reads asked 3 bells old some 5 rung turns new → ⊥
-  looks_twice bells rung old new some turns looks = let counts : 5 ≡ 4 = looks.counts in omega (arith, counts)
+  looks_twice : (bells rung : BellsView) (old new : RoundView ℕ ℕ ℕ ℕ) (some : Bool) → LooksAgain meaning reads asked 3 bells old some 5 rung new → ⊥
+  looks_twice bells rung old new some looks = let counts : 5 ≡ 4 = looks.counts in omega (arith, counts)
 
-  never_looks : (bells rung : BellsView) (old new : RoundView ℕ ℕ ℕ ℕ) (some : Bool) (turns : ℕ) → LooksAgain meaning reads asked 3 bells old some 3 rung turns new → ⊥
-  never_looks bells rung old new some turns looks = let counts : 3 ≡ 4 = looks.counts in omega (arith, counts)
+  never_looks : (bells rung : BellsView) (old new : RoundView ℕ ℕ ℕ ℕ) (some : Bool) → LooksAgain meaning reads asked 3 bells old some 3 rung new → ⊥
+  never_looks bells rung old new some looks = let counts : 3 ≡ 4 = looks.counts in omega (arith, counts)

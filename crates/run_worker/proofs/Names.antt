@@ -21,7 +21,7 @@ pub use Rattle.actor_seat.proofs.Fewer.{collected_few, delivered_few, delivery_s
 pub use Rattle.actor_seat.proofs.Growing.{no_shorter}
 pub use Rattle.actor_seat.proofs.Opened.{created_more, created_none, opened_linked}
 pub use Rattle.actor_seat.proofs.Openings.{opening_all}
-pub use Rattle.actor_seat.proofs.Passed.{all_passed, free_behind, has_passed, same_notes, same_places, still_free}
+pub use Rattle.actor_seat.proofs.Passed.{all_passed, has_passed, same_notes, same_places, still_free}
 pub use Rattle.actor_seat.proofs.PollNotes.{begun, pick_behind, pick_noted, poll_grows, writes_first, writes_further, WritesPoll}
 pub use Rattle.actor_seat.proofs.Rung.{rung_along, rung_behind}
 pub use Rattle.actor_seat.specs.Bells.{AreApart, BellsView, BellView, HasRung, once_more, rung_for}
@@ -54,12 +54,8 @@ pub use Rattle.base_words.specs.declared.order.Mode.{Mode}
 pub use Rattle.base_words.specs.declared.order.Order.{Order}
 pub use Rattle.base_words.specs.declared.order.Outcome.{Outcome}
 pub use Rattle.base_words.specs.declared.order.Reason.{Reason}
-pub use Rattle.base_words.specs.declared.stats.CoreStats.{CoreStats}
 pub use Rattle.base_words.specs.declared.stats.QueueStats.{QueueStats}
 pub use Rattle.core_core.proofs.Turned.{some_front}
-pub use Rattle.core_core.specs.Whole.{TellsAhead}
-pub use Rattle.core_core.specs.declared.turn.Ahead.{Ahead}
-pub use Rattle.core_core.specs.declared.turn.PickError.{PickError}
 pub use Rattle.core_core.specs.declared.turn.Settled.{Settled}
 pub use Rattle.core_queues.specs.Queues.{waiting_of}
 pub use Rattle.link_ends.specs.Calls.{final_of}
@@ -68,7 +64,7 @@ pub use Rattle.link_ends.specs.declared.ends.Inward.{Inward}
 pub use Rattle.link_ring.proofs.Using.{ends_same}
 pub use Rattle.link_ring.specs.Ends.{EndsView, in_at, no_in, no_out, out_at, SameEnds}
 pub use Rattle.link_ring.specs.Grid.{ends_at, no_ends}
-pub use Rattle.note_journal.specs.Journals.{free_notes, JournalView, places_of}
+pub use Rattle.note_journal.specs.Journals.{JournalView, places_of}
 pub use Rattle.note_journal.specs.Passing.{IsAsked, PassesOn}
 pub use Rattle.note_journal.specs.declared.sink.Refused.{Refused}
 pub use Rattle.run_config.proofs.Counts.{queues_away, queues_here, queues_none}
@@ -90,7 +86,7 @@ pub use Rattle.run_worker.specs.Rounds.{AreRung, CollectsFirst, CollectsNext, Ha
 pub use Rattle.run_worker.specs.Serves.{CountsIdle, GoesOn, Rests, round_of, Serves, ServesOn, ServesOnce, ServesToItsEnd, ShowsAgain, ShowsEnd, ShowsNow}
 pub use Rattle.run_worker.specs.Shown.{CantShow, IsShown, IsShownWhole, most_places, shown_of, ShownView, Shows, TellsAlone}
 pub use Rattle.run_worker.specs.Together.{all_ends, desk_among, HaveEnded}
-pub use Rattle.run_worker.specs.Turns.{TakesTurn, TurnsWith}
+pub use Rattle.run_worker.specs.Turns.{TakesTurn}
 pub use Rattle.run_worker.specs.Workers.{IsBellOf, KeepsOn, served_of, WorkerView}
 pub use Rattle.std.proofs.Common.{ap, arith, cond, drop, Err, get_or, if◌then◌else◌, inl, inr, length, List, map, Ok, refl, replicate, Result, subst, suc, sym, true≢false, zero, ℕ, [], ⊎_elim, ◌*◌, ◌++◌, ◌+◌, ◌-◌, ◌<◌, ◌^◌, ◌||◌, ◌∙◌, ◌∷◌}
 pub use Rattle.std.proofs.Common.{◌≡◌, ◌≢◌, ◌≤◌, ◌⊎◌}
@@ -99,4 +95,4 @@ pub use Rattle.std.proofs.Math.Seq.{drop-cons, get_or-append_seam}
 pub use Rattle.std.proofs.lemmas.Bool.{cases_eq, cases_lt, eq-eqb, false≢true, lt-ltb, ne_eqb}
 pub use Rattle.std.proofs.lemmas.List.{append-nil, append_assoc, drop_all, get_or-map, get_or_append_left, get_or_default, length-append, length-map, reverse-append}
 pub use Rattle.std.proofs.lemmas.Option.{get_or_from_slice_get, slice_get-get_or}
-pub use Rattle.std.specs.Prelude.{Bool, false, is_none, is_some, IsSome, IsTrue, nat_lt, None, not, Option, reverse, slice_index_or, Some, sum_by, true, unwrap_or, ◌==◌, ◌↔◌}
+pub use Rattle.std.specs.Prelude.{Bool, false, is_none, is_some, IsSome, nat_lt, None, not, Option, reverse, slice_index_or, Some, sum_by, true, unwrap_or, ◌==◌}

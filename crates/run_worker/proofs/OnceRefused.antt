@@ -2,7 +2,7 @@
 use Rattle.run_worker.proofs.Names.{ap, arith, CountsIdle, GoesOn, Grows, inl, inr, JobId, Journal, length, LooksAtAll, LooksOrRests, MakesRound, Meaning, refl, Rests, round_of, RoundView, ServedView, ServesOnce, ShownView, Shows, ShowsNow}
 use Rattle.run_worker.proofs.Names.{StepsServed, sym, true≢false, TurnsAlone, ℕ, [], ◌++◌, ◌<◌, ◌||◌, ◌∙◌, ◌≡◌, ◌≤◌}
 use Rattle.std.proofs.Common.{nat_lt, Bool, true, false, length-append}
-use Rattle.run_worker.proofs.ServesRefused.{has, never, silent}
+use Rattle.run_worker.proofs.ServesRefused.{has, never, silent, taker}
 use Rattle.run_worker.proofs.ShownAgain.{where_shown}
 use Rattle.run_worker.proofs.SmallWorkers.{SmallWorker, board_of, linked_of, one_note, small_worker}
 use Rattle.run_worker.proofs.Supplied.{where_notes}
@@ -39,56 +39,56 @@ one_wrote false false true old heard turned new told first second third open_now
 one_wrote false false false old heard turned new told first second third open_now = absurd (true≢false told)
 
 module _ (meaning : Meaning ℕ ℕ) (reads : ℕ → ℕ → ℕ → Type 0) (asked : ℕ → ℕ → JobId → ℕ → Type 0) where
-  look_wrote : (turns : ℕ) (old new : RoundView ℕ ℕ ℕ ℕ) → LooksAtAll meaning reads asked old true turns new → new.served.ending ≡ false → count_of old.served < count_of new.served
-  look_wrote turns old new looks open_now =
+  look_wrote : (old new : RoundView ℕ ℕ ℕ ℕ) → LooksAtAll meaning reads asked old true new → new.served.ending ≡ false → count_of old.served < count_of new.served
+  look_wrote old new looks open_now =
       one_wrote looks.worked looks.came looks.back old.served looks.heard looks.turned new.served looks.tells looks.steps looks.turn_steps looks.gathers open_now
 
   -- no turn is told as work without a note
-  alone_keeps : (turns left : ℕ) (some : Bool) (old new : RoundView ℕ ℕ ℕ ℕ) → TurnsAlone meaning reads asked turns old some left new → count_of old.served ≤ count_of new.served
-  alone_keeps turns left some old new (inl (_, _, same)) = let count = ap (λ (view : RoundView ℕ ℕ ℕ ℕ). count_of view.served) same in omega (arith, count)
-  alone_keeps turns left some old new (inr (_, _, steps)) = grown _ _ steps.stays.grows
+  alone_keeps : (some : Bool) (old new : RoundView ℕ ℕ ℕ ℕ) → TurnsAlone meaning reads asked old some new → count_of old.served ≤ count_of new.served
+  alone_keeps some old new (inl (_, _, same)) = let count = ap (λ (view : RoundView ℕ ℕ ℕ ℕ). count_of view.served) same in omega (arith, count)
+  alone_keeps some old new (inr (_, _, steps)) = grown _ _ steps.stays.grows
 
-  rests_or_wrote : (was_idle : Bool) (turns left : ℕ) (old new : RoundView ℕ ℕ ℕ ℕ) → LooksOrRests meaning reads asked was_idle turns old true left new → new.served.ending ≡ false → count_of old.served < count_of new.served
-  rests_or_wrote was_idle turns left old new (inl looks) open_now = look_wrote left old new looks open_now
-  rests_or_wrote was_idle turns left old new (inr (_, _, none, _, _)) open_now = absurd (true≢false none)
+  rests_or_wrote : (was_idle : Bool) (old new : RoundView ℕ ℕ ℕ ℕ) → LooksOrRests meaning reads asked was_idle old true new → new.served.ending ≡ false → count_of old.served < count_of new.served
+  rests_or_wrote was_idle old new (inl looks) open_now = look_wrote old new looks open_now
+  rests_or_wrote was_idle old new (inr (_, _, none, _)) open_now = absurd (true≢false none)
 
   -- a round that tells of work wrote a note
-  round_wrote : (was_idle : Bool) (turns left : ℕ) (old new : RoundView ℕ ℕ ℕ ℕ) → MakesRound meaning reads asked was_idle turns old true left new → new.served.ending ≡ false → count_of old.served < count_of new.served
-  round_wrote was_idle turns left old new (inl (_, inl (_, none, _))) open_now = absurd (true≢false none)
-  round_wrote was_idle turns left old new (inl (_, inr (_, _, steps))) open_now = wrote old.served new.served steps open_now
-  round_wrote was_idle turns left old new (inr (middle, fewer, alone, looks)) open_now =
-      omega (arith, alone_keeps turns fewer false old middle alone, rests_or_wrote was_idle fewer left middle new looks open_now)
+  round_wrote : (was_idle : Bool) (old new : RoundView ℕ ℕ ℕ ℕ) → MakesRound meaning reads asked was_idle old true new → new.served.ending ≡ false → count_of old.served < count_of new.served
+  round_wrote was_idle old new (inl (_, inl (_, none, _))) open_now = absurd (true≢false none)
+  round_wrote was_idle old new (inl (_, inr (_, _, steps))) open_now = wrote old.served new.served steps open_now
+  round_wrote was_idle old new (inr (middle, alone, looks)) open_now =
+      omega (arith, alone_keeps false old middle alone, rests_or_wrote was_idle middle new looks open_now)
 
   -- a worker that tries no round more, whose one note was passed on and isn't published
   abbrev unpublished : SmallWorker
   unpublished = small_worker (linked_of one_note one_note 1000) one_note 0
 
   -- it goes on without a note
-  goes_on_idle : GoesOn meaning reads asked has never silent unpublished true unpublished → ⊥
+  goes_on_idle : GoesOn meaning reads asked (taker never silent) unpublished true unpublished → ⊥
   goes_on_idle goes = counted goes.some goes.makes goes.counts
     where
       same : length goes.ready.linked.recorded.journal.notes ≡ 1
       same = ap (λ (notes : Journal ℕ). length notes) (where_notes has never _ unpublished goes.ready goes.hands)
 
-      counted : (some : Bool) → MakesRound meaning reads asked (nat_lt 0 goes.ready.idle) goes.ready.turns (round_of goes.ready) some 0 (round_of unpublished) → CountsIdle goes.ready.tries some goes.ready.idle true 0 → ⊥
-      counted true makes counts = omega (arith, same, round_wrote _ goes.ready.turns 0 (round_of goes.ready) (round_of unpublished) makes refl)
+      counted : (some : Bool) → MakesRound meaning reads asked (nat_lt 0 goes.ready.idle) (round_of goes.ready) some (round_of unpublished) → CountsIdle goes.ready.tries some goes.ready.idle true 0 → ⊥
+      counted true makes counts = omega (arith, same, round_wrote _ (round_of goes.ready) (round_of unpublished) makes refl)
       counted false makes counts = omega (arith, counts.0, goes.keeps.tries)
 
-  look_keeps : (turns : ℕ) (some : Bool) (old new : RoundView ℕ ℕ ℕ ℕ) → LooksAtAll meaning reads asked old some turns new → count_of old.served ≤ count_of new.served
-  look_keeps turns some old new looks = omega (arith, grown _ _ looks.steps.stays.grows, grown _ _ looks.turn_steps.stays.grows, grown _ _ looks.gathers.stays.grows)
+  look_keeps : (some : Bool) (old new : RoundView ℕ ℕ ℕ ℕ) → LooksAtAll meaning reads asked old some new → count_of old.served ≤ count_of new.served
+  look_keeps some old new looks = omega (arith, grown _ _ looks.steps.stays.grows, grown _ _ looks.turn_steps.stays.grows, grown _ _ looks.gathers.stays.grows)
 
   -- it sleeps, and its note isn't published
-  sleeps_unpublished : (tired told : SmallWorker) (slept : Bool) → tired.shown ≡ board_of [] 0 → ShowsNow tired told → Rests meaning reads asked has never silent told slept unpublished → ⊥
+  sleeps_unpublished : (tired told : SmallWorker) (slept : Bool) → tired.shown ≡ board_of [] 0 → ShowsNow tired told → Rests meaning reads asked (taker never silent) told slept unpublished → ⊥
   sleeps_unpublished tired told slept was shows rests = is_told shows.shows
     where
       count : 0 ≡ told.shown.count
-      count = ap (λ (shown : ShownView ℕ). shown.count) (rests.keeps.shown ∙ where_shown meaning reads asked has never silent _ told rests.ready rests.hands)
+      count = ap (λ (shown : ShownView ℕ). shown.count) (rests.keeps.shown ∙ where_shown meaning reads asked (taker never silent) _ told rests.ready rests.hands)
 
       few : length tired.linked.recorded.journal.notes ≤ 1
       few =
           let kept = ap (λ (notes : Journal ℕ). length notes) (where_notes has never _ told rests.ready rests.hands) in
           let still = ap (λ (worker : SmallWorker). length worker.linked.recorded.journal.notes) shows.rest in
-          omega (arith, kept, still, look_keeps _ _ (round_of rests.ready) (round_of unpublished) rests.looks)
+          omega (arith, kept, still, look_keeps _ (round_of rests.ready) (round_of unpublished) rests.looks)
 
       is_told : Shows tired.linked.recorded.journal.notes tired.shown told.shown → ⊥
       is_told (inl did) = let next = ap (λ (shown : ShownView ℕ). shown.count) did in omega (arith, count, next)
@@ -96,7 +96,7 @@ module _ (meaning : Meaning ℕ ℕ) (reads : ℕ → ℕ → ℕ → Type 0) (a
       is_told (inr (inr many, same)) = omega (arith, few, many)
 
   -- it goes on without a note, or lies down without having published
-  stays_unpublished : ServesOnce meaning reads asked has never silent unpublished unpublished → ⊥
+  stays_unpublished : ServesOnce meaning reads asked (taker never silent) unpublished unpublished → ⊥
   stays_unpublished (inl goes) = goes_on_idle goes
   stays_unpublished (inr (tired, goes, (told, shows, (slept, rests)))) =
-      sleeps_unpublished tired told slept (goes.keeps.shown ∙ where_shown meaning reads asked has never silent _ unpublished goes.ready goes.hands) shows rests
+      sleeps_unpublished tired told slept (goes.keeps.shown ∙ where_shown meaning reads asked (taker never silent) _ unpublished goes.ready goes.hands) shows rests

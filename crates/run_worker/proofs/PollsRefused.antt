@@ -1,5 +1,5 @@
 -- A look of a small worker that notes a poll for which no gate was asked is refused.
-use Rattle.run_worker.proofs.Names.{ap, arith, AsksFor, AsksSince, JobId, Journal, length, List, LooksAtAll, Meaning, polls_of, refl, RoundView, suc, sym, TimesNext, turn_view, ℕ, [], ◌++◌, ◌∙◌, ◌∷◌, ◌≡◌}
+use Rattle.run_worker.proofs.Names.{ap, arith, AsksFor, AsksSince, JobId, Journal, length, List, LooksAtAll, Meaning, polls_of, refl, RoundView, suc, sym, TimesNext, turn_view, ℕ, [], ◌++◌, ◌+◌, ◌∙◌, ◌∷◌, ◌≡◌}
 use Rattle.std.proofs.Common.{Bool}
 use Rattle.run_worker.proofs.Asking.{asks_between}
 use Rattle.run_worker.proofs.TurnAsks.{turn_asks}
@@ -17,19 +17,42 @@ none_asked core (name ∷ polls) before after asks = absurd asks.2
 
 module _ (meaning : Meaning ℕ ℕ) (reads : ℕ → ℕ → ℕ → Type 0) (asked : ℕ → ℕ → JobId → ℕ → Type 0) where
   -- a look asks the gate for each poll that it notes
-  look_asks : (old new : RoundView ℕ ℕ ℕ ℕ) (some : Bool) (turns : ℕ) → LooksAtAll meaning reads asked old some turns new →
+  look_asks : (old new : RoundView ℕ ℕ ℕ ℕ) (some : Bool) → LooksAtAll meaning reads asked old some new →
       AsksSince asked old.served.linked.recorded.core.core (notes_in old) (notes_in new) old.gate new.gate
-  look_asks old new some turns looks =
+  look_asks old new some looks =
       asks_between asked old.served.linked.recorded.core.core looks.turn.before.linked.recorded.core.core (notes_in old) looks.turn.before.linked.recorded.journal.notes
       looks.turned.linked.recorded.journal.notes (notes_in new) old.gate old.gate new.gate new.gate (looks.turn.stays.seat.number ∙ looks.steps.stays.seat.number) refl refl
       (looks.turn.none ∙ looks.none_before) looks.none_behind
       (turn_asks meaning (TimesNext reads) asked (turn_view looks.turn.before.linked old.watch old.gate) (turn_view looks.turned.linked looks.timed new.gate) looks.turn.made looks.turn.makes)
 
 -- a poll is noted, and nobody is asked for it
-polls_unasked : (meaning : Meaning ℕ ℕ) (reads : ℕ → ℕ → ℕ → Type 0) (name : JobId) (old new : RoundView ℕ ℕ ℕ ℕ) (some : Bool) (turns : ℕ) →
-    LooksAtAll meaning reads nobody old some turns new → polls_of (notes_in new) ≡ name ∷ polls_of (notes_in old) → ⊥
-polls_unasked meaning reads name old new some turns looks noted =
-    let since = look_asks meaning reads nobody old new some turns looks in
+polls_unasked : (meaning : Meaning ℕ ℕ) (reads : ℕ → ℕ → ℕ → Type 0) (name : JobId) (old new : RoundView ℕ ℕ ℕ ℕ) (some : Bool) →
+    LooksAtAll meaning reads nobody old some new → polls_of (notes_in new) ≡ name ∷ polls_of (notes_in old) → ⊥
+polls_unasked meaning reads name old new some looks noted =
+    let since = look_asks meaning reads nobody old new some looks in
     let none = none_asked old.served.linked.recorded.core.core since.polls old.gate new.gate since.asks in
     let longer : length (polls_of (notes_in old)) ≡ suc (length (polls_of (notes_in old))) = ap length (sym (since.told ∙ ap (λ polls. polls ++ polls_of (notes_in old)) none) ∙ noted) in
     omega (arith, longer)
+
+abbrev job : JobId
+job = record { from = 1; to = 0; number = 1 }
+
+-- the gate of core 0, which counts how often it was asked
+abbrev counts : ℕ → ℕ → JobId → ℕ → Type 0
+counts gate core name after = (core ≡ 0) × (after ≡ gate + 1)
+
+-- it isn't asked for the poll
+is_not_asked : AsksFor counts 0 (job ∷ []) 0 0 → ⊥
+is_not_asked asks = let first : asks.0 ≡ 0 = asks.1 in let one : 0 ≡ asks.0 + 1 = asks.2.1 in absurd (omega (arith, first, one))
+
+-- it is asked twice
+is_asked_twice : AsksFor counts 0 (job ∷ []) 0 2 → ⊥
+is_asked_twice asks = let first : asks.0 ≡ 0 = asks.1 in let one : 2 ≡ asks.0 + 1 = asks.2.1 in absurd (omega (arith, first, one))
+
+-- another core asks it
+is_asked_by_another : (gate : ℕ) → AsksFor counts 1 (job ∷ []) 0 gate → ⊥
+is_asked_by_another gate asks = let own : 1 ≡ 0 = asks.2.0 in absurd (omega (arith, own))
+
+-- it is asked, and nothing is polled
+is_asked_for_nothing : AsksFor counts 0 [] 0 1 → ⊥
+is_asked_for_nothing asks = let same : 1 ≡ 0 = asks in absurd (omega (arith, same))

@@ -1,6 +1,6 @@
 -- What is told of a core may be published, and what was published stays a beginning of its journal.
-use Rattle.run_worker.proofs.Names.{ap, append-nil, AreExact, arith, CantShow, cases_lt, CoreStats, EndsView, finished-within, get_or, get_or_from_slice_get, grows_along, inl, inr, IsDrained, IsOpenedOver, IsShown, IsShownWhole, IsTrue}
-use Rattle.run_worker.proofs.Names.{Journal, length, LinkedView, List, most_places, QueueStats, RecordedView, RunsOn, ShownView, Shows, stats_of, subst, sym, ℕ, [], ⊎_elim, ◌++◌, ◌-◌, ◌<◌, ◌^◌, ◌↔◌, ◌∙◌, ◌≡◌, ◌≤◌, ◌⊎◌}
+use Rattle.run_worker.proofs.Names.{ap, append-nil, AreExact, arith, CantShow, cases_lt, EndsView, finished-within, get_or, get_or_from_slice_get, grows_along, inl, inr, IsOpenedOver, IsShown, IsShownWhole}
+use Rattle.run_worker.proofs.Names.{Journal, length, LinkedView, List, most_places, QueueStats, RecordedView, RunsOn, ShownView, Shows, stats_of, subst, sym, ℕ, [], ⊎_elim, ◌++◌, ◌-◌, ◌<◌, ◌^◌, ◌∙◌, ◌≡◌, ◌≤◌, ◌⊎◌}
 use Rattle.std.proofs.Common.{Some}
 use Rattle.base_words.specs.Terms.{Terms as SeatTerms}
 use Rattle.actor_core.specs.Stats as told
@@ -8,13 +8,6 @@ use Rattle.run_watch.specs.Tells as board
 use Rattle.run_watch.specs.declared.board.Terms.{Terms}
 
 module _ {J : Type 0} (view : RecordedView J ℕ) (shown : ShownView ℕ) (is : IsShown view shown) where
-  -- the numbers of the core, as a publisher asks for them
-  pub core_shown : (core : CoreStats) → told.TellsCore view.core.cores view.journal.notes core → board.TellsCore shown.terms.cores view.journal.notes core
-  core_shown core tells = record {
-    sums = tells.sums;
-    drained = subst (λ (terms : Terms). IsTrue core.drained ↔ IsDrained terms.cores view.journal.notes) (sym is.terms_are) tells.drained;
-  }
-
   -- the numbers of its queues
   pub queues_shown : (queues : List QueueStats) → told.TellsQueues view.core.bursts.burst view.journal.notes (length queues) queues → board.TellsQueues shown.terms.burst view.journal.notes queues
   queues_shown queues tells = record {

@@ -2,6 +2,7 @@
 use Rattle.run_worker.proofs.Names.{ap, AsksSince, BellView, Bool, CountsIdle, GoesOn, HandsOnWhere, IsBellOf, IsDue, IsDueAtRest, JobId, Journal, LinkedView, List, LooksAtAll, MakesRound, Meaning, nat_lt, not, polls_of, Rests, round_of}
 use Rattle.run_worker.proofs.Names.{runs_along, runs_stays, RunsOn, served_of, ShownView, StaysLinked, subst, sym, WorkerView, ℕ, ◌≡◌}
 use Rattle.std.proofs.Common.{Option}
+use Rattle.note_journal.specs.declared.sink.Sink as taking
 use Rattle.std.specs.Prelude.{if◌then◌else◌}
 use Rattle.run_worker.proofs.Asking.{asks_none, asks_then}
 use Rattle.run_worker.proofs.Supplied.{where_gate, where_notes, where_runs}
@@ -11,27 +12,27 @@ abbrev pub worker_of : {J T C G S : Type 0} → LinkedView J T → Bool → C �
 worker_of linked ending clock gate last taken turns tries idle bells sink shown since =
     record { linked = linked; ending = ending; clock = clock; gate = gate; last = last; taken = taken; turns = turns; tries = tries; idle = idle; bells = bells; sink = sink; shown = shown; since = since }
 
-module _ {J T C G S : Type 0} (meaning : Meaning J T) (reads : C → ℕ → C → Type 0) (asked : G → ℕ → JobId → G → Type 0) (has : S → Journal T) (refused : S → ℕ → Type 0) (asks : S → Option ℕ) where
+module _ {J C G S : Type 0} (meaning : Meaning J ℕ) (reads : C → ℕ → C → Type 0) (asked : G → ℕ → JobId → G → Type 0) (takes : taking.Ghosts S) where
   -- notes are passed on, then a round is made, and it is counted
-  pub goes : (old ready inside new : WorkerView J T C G S) (result some again : Bool) → inside ≡ ready → HandsOnWhere has refused asks (IsDue (served_of old)) old ready → result ≡ some →
-      MakesRound meaning reads asked (nat_lt 0 inside.idle) inside.turns (round_of inside) result new.turns (round_of new) →
-      CountsIdle inside.tries some inside.idle again new.idle → new.tries ≡ inside.tries → new.bells ≡ inside.bells → new.sink ≡ inside.sink → new.shown ≡ inside.shown → new.since ≡ inside.since → GoesOn meaning reads asked has refused asks old again new
+  pub goes : (old ready inside new : WorkerView J ℕ C G S) (result some again : Bool) → inside ≡ ready → HandsOnWhere takes.has takes.refused takes.asks (IsDue (served_of old)) old ready → result ≡ some →
+      MakesRound meaning reads asked (nat_lt 0 inside.idle) (round_of inside) result (round_of new) →
+      CountsIdle inside.tries some inside.idle again new.idle → new.tries ≡ inside.tries → new.bells ≡ inside.bells → new.sink ≡ inside.sink → new.shown ≡ inside.shown → new.since ≡ inside.since → GoesOn meaning reads asked takes old again new
   goes old ready inside new result some again seen hands told makes counts tries bells sink shown since = record {
     ready = inside;
-    hands = subst (HandsOnWhere has refused asks (IsDue (served_of old)) old) (sym seen) hands;
+    hands = subst (HandsOnWhere takes.has takes.refused takes.asks (IsDue (served_of old)) old) (sym seen) hands;
     some = some;
-    makes = subst (λ some. MakesRound meaning reads asked (nat_lt 0 inside.idle) inside.turns (round_of inside) some new.turns (round_of new)) told makes;
+    makes = subst (λ some. MakesRound meaning reads asked (nat_lt 0 inside.idle) (round_of inside) some (round_of new)) told makes;
     counts = counts;
     keeps = record { tries = tries; bells = bells; sink = sink; shown = shown; since = since };
   }
 
   -- notes are passed on, and then there is a look
-  pub rests : (old ready inside new : WorkerView J T C G S) (slept : Bool) → inside ≡ ready → HandsOnWhere has refused asks (IsDueAtRest (served_of old)) old ready →
-      LooksAtAll meaning reads asked (round_of inside) (not slept) new.turns (round_of new) →
-      new.idle ≡ (if slept then inside.idle else 0) → new.tries ≡ inside.tries → new.bells ≡ inside.bells → new.sink ≡ inside.sink → new.shown ≡ inside.shown → new.since ≡ inside.since → Rests meaning reads asked has refused asks old slept new
+  pub rests : (old ready inside new : WorkerView J ℕ C G S) (slept : Bool) → inside ≡ ready → HandsOnWhere takes.has takes.refused takes.asks (IsDueAtRest (served_of old)) old ready →
+      LooksAtAll meaning reads asked (round_of inside) (not slept) (round_of new) →
+      new.idle ≡ (if slept then inside.idle else 0) → new.tries ≡ inside.tries → new.bells ≡ inside.bells → new.sink ≡ inside.sink → new.shown ≡ inside.shown → new.since ≡ inside.since → Rests meaning reads asked takes old slept new
   rests old ready inside new slept seen hands looks counts tries bells sink shown since = record {
     ready = inside;
-    hands = subst (HandsOnWhere has refused asks (IsDueAtRest (served_of old)) old) (sym seen) hands;
+    hands = subst (HandsOnWhere takes.has takes.refused takes.asks (IsDueAtRest (served_of old)) old) (sym seen) hands;
     looks = looks;
     counts = counts;
     keeps = record { tries = tries; bells = bells; sink = sink; shown = shown; since = since };

@@ -1,6 +1,7 @@
 -- Rounds and rests of a small worker that are refused: notes that are kept or handed on too early, and a sink that isn't asked again.
-use Rattle.run_worker.proofs.Names.{ap, arith, Err, GoesOn, HandsOnWhere, inl, inr, IsAsked, IsDue, JobId, Journal, JournalView, Meaning, Ok, PassesOn, refl, Refused, Rests, Result, served_of, sym, unwrap_or, ℕ, [], ◌∙◌, ◌≡◌}
+use Rattle.run_worker.proofs.Names.{ap, AreApart, arith, CountsIdle, Err, false, GoesOn, HandsOnWhere, inl, inr, IsAsked, IsDue, JobId, Journal, JournalView, Meaning, Ok, PassesOn, refl, Refused, Rests, Result, served_of, sym, true, unwrap_or, ℕ, [], ◌∙◌, ◌∷◌, ◌≡◌}
 use Rattle.std.proofs.Common.{Bool, Option, Some, None}
+use Rattle.note_journal.specs.declared.sink.Sink as taking
 use Rattle.run_worker.proofs.SmallWorkers.{SmallWorker, linked_of, one_note, small_worker}
 
 -- the sink has what it was handed, and never refuses
@@ -21,6 +22,10 @@ always sink count = Unit {0}
 -- it was asked twice, and not since
 abbrev pub twice : Journal ℕ → Option ℕ
 twice sink = Some 2
+
+-- what a sink refuses, and how often it says that it was asked
+abbrev pub taker : (Journal ℕ → ℕ → Type 0) → (Journal ℕ → Option ℕ) → taking.Ghosts (Journal ℕ)
+taker refused asks = record { has = has; refused = refused; asks = asks; mark = λ sink. 0 }
 
 pub unasked : (before after : Journal ℕ) → IsAsked (twice before) (twice after) → ⊥
 unasked before after asked = let more : 2 ≡ 3 = ap (λ (count : Option ℕ). unwrap_or count 0) asked in omega (arith, more)
@@ -50,10 +55,10 @@ is_asked old ready due (inr (idle, _)) = idle due
 
 module _ (meaning : Meaning ℕ ℕ) (reads : ℕ → ℕ → ℕ → Type 0) (asked : ℕ → ℕ → JobId → ℕ → Type 0) where
   abbrev Goes : SmallWorker → Bool → SmallWorker → Type 0
-  Goes = GoesOn meaning reads asked has never silent
+  Goes = GoesOn meaning reads asked (taker never silent)
 
   abbrev Sleeps : SmallWorker → Bool → SmallWorker → Type 0
-  Sleeps = Rests meaning reads asked has never silent
+  Sleeps = Rests meaning reads asked (taker never silent)
 
   -- 63 notes are free where two rounds may write 64, and the note is kept before the round
   keeps_before_a_round : (again : Bool) → Goes (keeping 64) again (keeping 64) → ⊥
@@ -73,9 +78,33 @@ module _ (meaning : Meaning ℕ ℕ) (reads : ℕ → ℕ → ℕ → Type 0) (a
   keeps_before_a_rest slept did = is_handed 1000 did.ready (refl, omega arith) (sym did.keeps.sink) did.hands
 
   -- its sink refused the note, and isn't asked again before the round
-  asks_no_more_before_a_round : (again : Bool) → GoesOn meaning reads asked has always twice (keeping 64) again (keeping 64) → ⊥
+  asks_no_more_before_a_round : (again : Bool) → GoesOn meaning reads asked (taker always twice) (keeping 64) again (keeping 64) → ⊥
   asks_no_more_before_a_round again did = is_asked (keeping 64) did.ready (refl, inl (omega arith)) did.hands
 
   -- nor before the rest
-  asks_no_more_before_a_rest : (slept : Bool) → Rests meaning reads asked has always twice (keeping 1000) slept (keeping 1000) → ⊥
+  asks_no_more_before_a_rest : (slept : Bool) → Rests meaning reads asked (taker always twice) (keeping 1000) slept (keeping 1000) → ⊥
   asks_no_more_before_a_rest slept did = is_asked (keeping 1000) did.ready (refl, omega arith) did.hands
+
+-- a worker that tries two rounds more goes on behind the first idle round
+goes_on : CountsIdle 2 false 0 true 1
+goes_on = (omega arith, refl)
+
+-- it parks behind the first
+parks_too_early : CountsIdle 2 false 0 false 0 → ⊥
+parks_too_early counts = omega (arith, counts.0)
+
+-- it goes on behind as many as it tries
+goes_on_too_long : CountsIdle 2 false 2 true 3 → ⊥
+goes_on_too_long counts = omega (arith, counts.0)
+
+-- it doesn't count an idle round
+is_not_counted : CountsIdle 2 false 0 true 0 → ⊥
+is_not_counted counts = omega (arith, counts.1)
+
+-- it counts on behind a round in which something was done
+counts_on : CountsIdle 2 true 1 true 2 → ⊥
+counts_on counts = omega (arith, counts.1)
+
+-- two actors have one bell
+one_bell_for_two : AreApart (7 ∷ 7 ∷ []) → ⊥
+one_bell_for_two apart = let same = apart 0 1 (omega arith) (omega arith) refl in omega (arith, same)

@@ -1,7 +1,7 @@
 -- What a publication leaves as it was, and that a worker keeps its board.
 use Rattle.run_worker.proofs.Names.{ap, AsksSince, Bool, GoesOn, HandsOnWhere, inl, inr, JobId, Journal, LinkedView, Meaning, Rests, RunsOn, Serves, ServesOnce, ShownView, Shows, ShowsAgain, ShowsEnd, ShowsNow, subst, sym, WorkerView, ℕ}
 use Rattle.run_worker.proofs.Names.{◌∙◌, ◌≡◌}
-use Rattle.std.proofs.Common.{Option}
+use Rattle.note_journal.specs.declared.sink.Sink as taking
 
 -- it is the same board
 pub shows_board : {T : Type 0} (notes : Journal T) (old new : ShownView T) → Shows notes old new → new.board ≡ old.board
@@ -64,22 +64,22 @@ module _ {J T C G S : Type 0} where
         subst (λ before. AsksSince asked old.linked.recorded.core.core old.linked.recorded.journal.notes notes before gate) same.gate
         (subst (λ linked. AsksSince asked linked.recorded.core.core linked.recorded.journal.notes notes middle.gate gate) same.linked asks)
 
-  module _ (meaning : Meaning J T) (reads : C → ℕ → C → Type 0) (asked : G → ℕ → JobId → G → Type 0) (has : S → Journal T) (refused : S → ℕ → Type 0) (asks : S → Option ℕ) where
-    pub where_shown : (due : Type 0) (old new : WorkerView J T C G S) → HandsOnWhere has refused asks due old new → new.shown ≡ old.shown
-    where_shown due old new (inl did) = ap (λ view. view.shown) did.2
-    where_shown due old new (inr none) = ap (λ view. view.shown) none.1
+module _ {J C G S : Type 0} (meaning : Meaning J ℕ) (reads : C → ℕ → C → Type 0) (asked : G → ℕ → JobId → G → Type 0) (takes : taking.Ghosts S) where
+  pub where_shown : (due : Type 0) (old new : WorkerView J ℕ C G S) → HandsOnWhere takes.has takes.refused takes.asks due old new → new.shown ≡ old.shown
+  where_shown due old new (inl did) = ap (λ view. view.shown) did.2
+  where_shown due old new (inr none) = ap (λ view. view.shown) none.1
 
-    goes_board : (old new : WorkerView J T C G S) (again : Bool) → GoesOn meaning reads asked has refused asks old again new → new.shown.board ≡ old.shown.board
-    goes_board old new again did = ap (λ shown. shown.board) (did.keeps.shown ∙ where_shown _ old did.ready did.hands)
+  goes_board : (old new : WorkerView J ℕ C G S) (again : Bool) → GoesOn meaning reads asked takes old again new → new.shown.board ≡ old.shown.board
+  goes_board old new again did = ap (λ shown. shown.board) (did.keeps.shown ∙ where_shown _ old did.ready did.hands)
 
-    rests_board : (old new : WorkerView J T C G S) (slept : Bool) → Rests meaning reads asked has refused asks old slept new → new.shown.board ≡ old.shown.board
-    rests_board old new slept did = ap (λ shown. shown.board) (did.keeps.shown ∙ where_shown _ old did.ready did.hands)
+  rests_board : (old new : WorkerView J ℕ C G S) (slept : Bool) → Rests meaning reads asked takes old slept new → new.shown.board ≡ old.shown.board
+  rests_board old new slept did = ap (λ shown. shown.board) (did.keeps.shown ∙ where_shown _ old did.ready did.hands)
 
-    once_board : (old new : WorkerView J T C G S) → ServesOnce meaning reads asked has refused asks old new → new.shown.board ≡ old.shown.board
-    once_board old new (inl goes) = goes_board old new _ goes
-    once_board old new (inr (tired, goes, (told, shows, (slept, rests)))) =
-        rests_board told new slept rests ∙ ((now_same tired told shows).board ∙ goes_board old tired _ goes)
+  once_board : (old new : WorkerView J ℕ C G S) → ServesOnce meaning reads asked takes old new → new.shown.board ≡ old.shown.board
+  once_board old new (inl goes) = goes_board old new _ goes
+  once_board old new (inr (tired, goes, (told, shows, (slept, rests)))) =
+      rests_board told new slept rests ∙ ((now_same tired told shows).board ∙ goes_board old tired _ goes)
 
-    -- a worker that serves keeps its board
-    pub serves_board : (old new : WorkerView J T C G S) → Serves meaning reads asked has refused asks old new → new.shown.board ≡ old.shown.board
-    serves_board old new (shown, again, (served, once, end)) = (end_same shown.ending served new end).board ∙ (once_board shown served once ∙ (again_same old shown again).board)
+  -- a worker that serves keeps its board
+  pub serves_board : (old new : WorkerView J ℕ C G S) → Serves meaning reads asked takes old new → new.shown.board ≡ old.shown.board
+  serves_board old new (shown, again, (served, once, end)) = (end_same shown.ending served new end).board ∙ (once_board shown served once ∙ (again_same old shown again).board)

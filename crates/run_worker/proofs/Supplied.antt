@@ -1,10 +1,9 @@
 -- A worker that passes on its notes before a round comes to its end in it only if its sink refused.
-use Rattle.run_worker.proofs.Names.{ActsAsItMay, ActsByCommand, ap, arith, Bool, cases_lt, ends_same, false, false≢true, free_behind, free_notes, HandsOn, HandsOnWhere, has_passed, HasPlaces, HasSpare, inl, inr, IsBetweenTurns, IsDue}
-use Rattle.run_worker.proofs.Names.{IsDueAtRest, IsLinked, IsProvided, IsServed, IsShown, IsSupplied, Journal, least_free, length, LinkedView, Meaning, opening_of, PassesTo, places_of, refl, RoundsFew, runs_same, RunsOn, same_notes}
-use Rattle.run_worker.proofs.Names.{same_places, SameEnds, sees_same, SeesNoLess, ServedView, ShownView, StaysLinked, still_free, subst, sym, terms_at, true, WorkerView, ℕ, [], ⊎_elim, ◌*◌, ◌+◌, ◌<◌, ◌∙◌, ◌≡◌, ◌≤◌, ◌⊎◌}
+use Rattle.run_worker.proofs.Names.{ActsAsItMay, ActsByCommand, ap, arith, Bool, ends_same, false, false≢true, HandsOn, HandsOnWhere, HasPlaces, HasSpare, inl, inr, IsBetweenTurns}
+use Rattle.run_worker.proofs.Names.{IsLinked, IsProvided, IsServed, IsSupplied, Journal, least_free, length, LinkedView, Meaning, opening_of, PassesTo, places_of, refl, RoundsFew, runs_same, RunsOn, same_notes}
+use Rattle.run_worker.proofs.Names.{same_places, SameEnds, sees_same, SeesNoLess, ServedView, StaysLinked, still_free, subst, sym, terms_at, true, WorkerView, ℕ, [], ◌*◌, ◌+◌, ◌∙◌, ◌≡◌}
 use Rattle.std.proofs.Common.{Option}
 use Rattle.run_worker.proofs.Spare.{least_along}
-use Rattle.run_worker.proofs.Published.{shown_runs}
 
 module _ {J T S : Type 0} (has : S → Journal T) (refused : S → ℕ → Type 0) where
   module _ {asks : S → Option ℕ} (old new : LinkedView J T) (before after : S) (did : HandsOn has refused asks old before new after) where
@@ -28,18 +27,6 @@ module _ {J T S : Type 0} (has : S → Journal T) (refused : S → ℕ → Type 
       grows = ([], hands_notes);
     }
 
-    -- what was published stays a beginning of the journal
-    pub hands_shown : (shown : ShownView T) → IsShown old.recorded shown → IsShown new.recorded shown
-    hands_shown shown is = shown_runs old new shown hands_runs is
-
-    -- the worker isn't at its end, and its sink has what was passed on
-    pub hands_passes : HasPlaces old.recorded → has before ≡ old.recorded.journal.passed → (ending : Bool) → ending ≡ false → PassesTo has refused (record { linked = new; ending = ending }) after
-    hands_passes places had ending going = record {
-      passed = has_passed has refused old.recorded.journal new.recorded.journal before after did.answer did.passes had;
-      places = omega (arith, places, hands_places, hands_least);
-      refuses = λ is. cc;
-    }
-
     -- there is room for its end
     pub hands_spare : HasPlaces old.recorded → HasSpare old.recorded → HasSpare new.recorded
     hands_spare places spare =
@@ -61,37 +48,7 @@ module _ {J T S : Type 0} (has : S → Journal T) (refused : S → ℕ → Type 
           (subst ActsByCommand (sym hands_notes) (subst (λ ending. ActsAsItMay ending old.recorded) going served.acts));
     }
 
-    -- as much is free as two rounds may write, or the sink refused
-    pub hands_supplied : HasPlaces old.recorded → (ending : Bool) → IsSupplied has refused (record { linked = new; ending = ending }) after
-    hands_supplied places ending =
-        subst (λ least. (2 * least ≤ free_notes new.recorded.journal) ⊎ refused after (length new.recorded.journal.passed)) (sym hands_least)
-        (free_behind has refused old.recorded.journal new.recorded.journal before after did.answer did.passes _ places)
-
   module _ (served : ServedView J T) (sink : S) (passes : PassesTo has refused served sink) where
-    -- a journal that isn't low has enough notes free
-    pub supplied_high : (IsDue served → ⊥) → IsSupplied has refused served sink
-    supplied_high high = by_ending served.ending refl
-      where
-        by_ending : (ending : Bool) → served.ending ≡ ending → IsSupplied has refused served sink
-        by_ending true is = inr (passes.refuses is)
-        by_ending false is =
-            ⊎_elim
-            (λ (few : free_notes served.linked.recorded.journal < 2 * least_free served.linked.recorded.core.cores served.linked.recorded.cap served.linked.recorded.core.bursts.burst). absurd (high (is, inl few)))
-            (λ (enough : 2 * least_free served.linked.recorded.core.cores served.linked.recorded.cap served.linked.recorded.core.bursts.burst ≤ free_notes served.linked.recorded.journal). inl enough)
-            (cases_lt (free_notes served.linked.recorded.journal) (2 * least_free served.linked.recorded.core.cores served.linked.recorded.cap served.linked.recorded.core.bursts.burst))
-
-    -- and so has one that keeps none
-    pub supplied_empty : (IsDueAtRest served → ⊥) → IsSupplied has refused served sink
-    supplied_empty empty = by_ending served.ending refl
-      where
-        by_ending : (ending : Bool) → served.ending ≡ ending → IsSupplied has refused served sink
-        by_ending true is = inr (passes.refuses is)
-        by_ending false is =
-            ⊎_elim
-            (λ (some : length served.linked.recorded.journal.passed < length served.linked.recorded.journal.notes). absurd (empty (is, some)))
-            (λ (none : length served.linked.recorded.journal.notes ≤ length served.linked.recorded.journal.passed). inl (let places = passes.places in omega (arith, places, none)))
-            (cases_lt (length served.linked.recorded.journal.passed) (length served.linked.recorded.journal.notes))
-
     -- behind a round the worker is at its end only if its sink refused
     pub round_passes : (new : ServedView J T) → IsSupplied has refused served sink → StaysLinked served.linked new.linked → RoundsFew served new → PassesTo has refused new sink
     round_passes new supplied stays few = record {

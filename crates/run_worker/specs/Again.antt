@@ -10,9 +10,9 @@ use Rattle.run_worker.specs.Rounds.{AreRung, StepsServed}
 
 module _ {J T C G : Type 0} (meaning : Meaning J T) (reads : C → ℕ → C → Type 0) (asked : G → ℕ → JobId → G → Type 0) where
   -- One look at everything, which counts as one, and tells whether anything was done. The same bells are rung for its notes.
-  pub record LooksAgain (looks : ℕ) (bells : BellsView) (old : RoundView J T C G) (some : Bool) (counted : ℕ) (rung : BellsView) (turns : ℕ) (new : RoundView J T C G) : Type 0 where
+  pub record LooksAgain (looks : ℕ) (bells : BellsView) (old : RoundView J T C G) (some : Bool) (counted : ℕ) (rung : BellsView) (new : RoundView J T C G) : Type 0 where
     pub counts : counted ≡ once_more looks
-    pub all : LooksAtAll meaning reads asked old some turns new
+    pub all : LooksAtAll meaning reads asked old some new
     pub asks : AsksSince asked old.served.linked.recorded.core.core old.served.linked.recorded.journal.notes new.served.linked.recorded.journal.notes old.gate new.gate
     pub steps : StepsServed old.served some new.served
     pub few : RoundsFew old.served new.served

@@ -1,7 +1,7 @@
 -- How a worker serves its core: round after round, and a rest where nothing is to be done.
-use Rattle.std.specs.Prelude.{◌≡◌, ◌⊎◌, ℕ, ◌+◌, ◌≤◌, ◌<◌, Bool, true, false, not, nat_lt, if◌then◌else◌, Option, List, [], ◌∷◌}
+use Rattle.std.specs.Prelude.{◌≡◌, ◌⊎◌, ℕ, ◌+◌, ◌≤◌, ◌<◌, Bool, true, false, not, nat_lt, if◌then◌else◌, List, [], ◌∷◌}
 use Rattle.base_words.specs.declared.names.JobId.{JobId}
-use Rattle.base_words.specs.Journal.{Journal}
+use Rattle.note_journal.specs.declared.sink.Sink as taking
 use Rattle.base_jobs.specs.Meanings.{Meaning}
 use Rattle.run_worker.specs.Ended.{EndedView}
 use Rattle.run_worker.specs.Looks.{LooksAtAll, MakesRound, RoundView}
@@ -18,9 +18,9 @@ CountsIdle tries false idle true later = (idle < tries) × (later ≡ idle + 1)
 CountsIdle tries false idle false later = (tries ≤ idle) × (later ≡ idle)
 
 module _ {J T C G S : Type 0} where
-  -- its core, and the watch and the gate that serve it
+  -- its core, the watch and the gate that serve it, and its turns without a look
   abbrev pub round_of : WorkerView J T C G S → RoundView J T C G
-  round_of worker = record { served = served_of worker; watch = watch_view worker.clock worker.last worker.taken; gate = worker.gate }
+  round_of worker = record { served = served_of worker; watch = watch_view worker.clock worker.last worker.taken; gate = worker.gate; turns = worker.turns }
 
   -- the worker tries as often as before, and rings the same bells; its sink isn't asked, and nothing is published
   pub record KeepsTries (old new : WorkerView J T C G S) : Type 0 where
@@ -47,48 +47,48 @@ module _ {J T C G S : Type 0} where
   abbrev pub ShowsAgain : WorkerView J T C G S → WorkerView J T C G S → Type 0
   ShowsAgain old new = ((shown_each ≤ old.since) × ShowsNow old new) ⊎ ((old.since < shown_each) × (new ≡ counted_round old))
 
-module _ {J T C G S : Type 0} (meaning : Meaning J T) (reads : C → ℕ → C → Type 0) (asked : G → ℕ → JobId → G → Type 0) (has : S → Journal T) (refused : S → ℕ → Type 0) (asks : S → Option ℕ) where
+module _ {J C G S : Type 0} (meaning : Meaning J ℕ) (reads : C → ℕ → C → Type 0) (asked : G → ℕ → JobId → G → Type 0) (takes : taking.Ghosts S) where
   -- notes are passed on where the journal is low, and then there is one round; and whether the next one is made at once
-  pub record GoesOn (old : WorkerView J T C G S) (again : Bool) (new : WorkerView J T C G S) : Type 0 where
-    pub ready : WorkerView J T C G S
-    pub hands : HandsOnWhere has refused asks (IsDue (served_of old)) old ready
+  pub record GoesOn (old : WorkerView J ℕ C G S) (again : Bool) (new : WorkerView J ℕ C G S) : Type 0 where
+    pub ready : WorkerView J ℕ C G S
+    pub hands : HandsOnWhere takes.has takes.refused takes.asks (IsDue (served_of old)) old ready
     pub some : Bool
-    pub makes : MakesRound meaning reads asked (nat_lt 0 ready.idle) ready.turns (round_of ready) some new.turns (round_of new)
+    pub makes : MakesRound meaning reads asked (nat_lt 0 ready.idle) (round_of ready) some (round_of new)
     pub counts : CountsIdle ready.tries some ready.idle again new.idle
     pub keeps : KeepsTries ready new
 
   -- notes are passed on where one is kept, and then there is a look at everything, behind which it sleeps only if there was nothing; else it counts anew
-  pub record Rests (old : WorkerView J T C G S) (slept : Bool) (new : WorkerView J T C G S) : Type 0 where
-    pub ready : WorkerView J T C G S
-    pub hands : HandsOnWhere has refused asks (IsDueAtRest (served_of old)) old ready
-    pub looks : LooksAtAll meaning reads asked (round_of ready) (not slept) new.turns (round_of new)
+  pub record Rests (old : WorkerView J ℕ C G S) (slept : Bool) (new : WorkerView J ℕ C G S) : Type 0 where
+    pub ready : WorkerView J ℕ C G S
+    pub hands : HandsOnWhere takes.has takes.refused takes.asks (IsDueAtRest (served_of old)) old ready
+    pub looks : LooksAtAll meaning reads asked (round_of ready) (not slept) (round_of new)
     pub counts : new.idle ≡ (if slept then ready.idle else 0)
     pub keeps : KeepsTries ready new
 
   -- one round; or one behind which the next one isn't made at once, and then the numbers are published, and there is a rest
-  abbrev pub ServesOnce : WorkerView J T C G S → WorkerView J T C G S → Type 0
+  abbrev pub ServesOnce : WorkerView J ℕ C G S → WorkerView J ℕ C G S → Type 0
   ServesOnce old new =
       GoesOn old true new
-      ⊎ ((tired : WorkerView J T C G S) × GoesOn old false tired × ((told : WorkerView J T C G S) × ShowsNow tired told × ((slept : Bool) × Rests told slept new)))
+      ⊎ ((tired : WorkerView J ℕ C G S) × GoesOn old false tired × ((told : WorkerView J ℕ C G S) × ShowsNow tired told × ((slept : Bool) × Rests told slept new)))
 
   -- The numbers are published if it is time, and then there is one round, and a rest where the next one isn't made at once. They are published once more where
   -- the worker came to its end by it.
-  abbrev pub Serves : WorkerView J T C G S → WorkerView J T C G S → Type 0
-  Serves old new = (shown : WorkerView J T C G S) × ShowsAgain old shown × ((served : WorkerView J T C G S) × ServesOnce shown served × ShowsEnd shown.ending served new)
+  abbrev pub Serves : WorkerView J ℕ C G S → WorkerView J ℕ C G S → Type 0
+  Serves old new = (shown : WorkerView J ℕ C G S) × ShowsAgain old shown × ((served : WorkerView J ℕ C G S) × ServesOnce shown served × ShowsEnd shown.ending served new)
 
   -- the worker served like this once and again, and these are its states between, the last one first
-  abbrev pub ServesAlong : List (WorkerView J T C G S) → WorkerView J T C G S → WorkerView J T C G S → Type 0
+  abbrev pub ServesAlong : List (WorkerView J ℕ C G S) → WorkerView J ℕ C G S → WorkerView J ℕ C G S → Type 0
   ServesAlong [] old new = new ≡ old
   ServesAlong (last ∷ states) old new = ServesAlong states old last × Serves last new
 
   -- the same, through whatever states
-  abbrev pub ServesOn : WorkerView J T C G S → WorkerView J T C G S → Type 0
-  ServesOn old new = (states : List (WorkerView J T C G S)) × ServesAlong states old new
+  abbrev pub ServesOn : WorkerView J ℕ C G S → WorkerView J ℕ C G S → Type 0
+  ServesOn old new = (states : List (WorkerView J ℕ C G S)) × ServesAlong states old new
 
   -- The worker served like this, then its numbers were published for the last time, and what was still kept was handed to its sink. What it gives back is its
   -- core, its sink and its board.
-  pub record ServesToItsEnd (old : WorkerView J T C G S) (new : EndedView J T S) : Type 0 where
-    pub last : WorkerView J T C G S
+  pub record ServesToItsEnd (old : WorkerView J ℕ C G S) (new : EndedView J ℕ S) : Type 0 where
+    pub last : WorkerView J ℕ C G S
     pub serves : ServesOn old last
     pub shows : Shows last.linked.recorded.journal.notes last.shown new.shown
-    pub hands : HandsOn has refused asks last.linked last.sink new.linked new.sink
+    pub hands : HandsOn takes.has takes.refused takes.asks last.linked last.sink new.linked new.sink

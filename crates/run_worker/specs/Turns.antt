@@ -6,7 +6,6 @@ use Rattle.run_worker.specs.Asks.{NotesNoPoll}
 use Rattle.actor_seat.specs.Bursts.{MakesTurn, turn_view}
 use Rattle.actor_seat.specs.Linked.{StaysLinked}
 use Rattle.run_worker.specs.Ended.{ServedView}
-use Rattle.run_worker.specs.Readings.{TimesNext, WatchView}
 use Rattle.run_worker.specs.Rooms.{IsReady}
 use Rattle.run_worker.specs.Rounds.{LooksAtRoom, is_turn}
 use Rattle.actor_core.specs.declared.whole.Turned.{Turned}
@@ -25,9 +24,3 @@ module _ {J T M G : Type 0} (meaning : Meaning J T) (tells : M → ℕ → M →
     pub made : Turned
     pub makes : MakesTurn meaning tells asked (turn_view before.linked meter gate) made (turn_view new.linked later after)
     pub answer : some ≡ is_turn made
-
-module _ {J T C G : Type 0} (meaning : Meaning J T) (reads : C → ℕ → C → Type 0) (asked : G → ℕ → JobId → G → Type 0) where
-  -- The room is looked at, and a turn is made. Each poll is timed by this watch, and this gate is asked for it. Behind a turn without a poll both are as they
-  -- were.
-  abbrev pub TurnsWith : WatchView C → WatchView C → G → G → ServedView J T → Bool → ServedView J T → Type 0
-  TurnsWith watch later before after old some new = TakesTurn meaning (TimesNext reads) asked watch later before after old some new

@@ -34,7 +34,6 @@ mod gates;
 pub mod laws;
 pub mod linked;
 mod opening;
-mod quiet;
 mod rounds;
 pub mod served;
 mod showing;

@@ -8,25 +8,24 @@
 //! - `plan` sets `turns` behind a look, and `passes_links` takes one of them. At 0 the next round looks.
 //! - A look goes in the order of `look`: gates, deliveries, a turn, outcomes.
 
-ghost use Rattle.std.specs.Prelude.{◌≡◌, ◌||◌, ◌+◌, ◌*◌, ◌≤◌, None, drop, false, length, reverse, true};
+ghost use Rattle.std.specs.Prelude.{◌≡◌, ◌||◌, ◌+◌, ◌*◌, ◌≤◌, None, drop, length, reverse, true};
 ghost use Rattle.run_worker.specs.Rounds.{AreRung};
 ghost use Rattle.actor_seat.specs.Bells.{once_more, rung_for};
 ghost use Rattle.run_worker.specs.Asks.{AsksSince, NotesNoPoll};
 ghost use Rattle.run_worker.specs.Ended.{IsServed};
 ghost use Rattle.run_worker.specs.Few.{RoundsFew, TurnsFew, WritesFew};
 ghost use Rattle.run_worker.specs.Looks.{LooksAtAll, MakesRound, PassesLinks, TurnsAlone, leaves_turns, round_view, turns_after};
-ghost use Rattle.run_worker.specs.Passing.{HandsOn, HasPlaces};
-ghost use Rattle.run_worker.specs.Readings.{kept_behind, watch_view};
+ghost use Rattle.run_worker.specs.Readings.{TimesNext, kept_behind, watch_view};
 ghost use Rattle.run_worker.specs.Rounds.{CollectsFirst, HearsAll, ShutsClosed, StepsServed};
 ghost use Rattle.actor_seat.specs.Steps.{HasNoTurn};
-ghost use Rattle.run_worker.specs.Turns.{TurnsWith};
+ghost use Rattle.run_worker.specs.Turns.{TakesTurn};
 
 use crate::linked::Linked;
 use crate::served::Served;
 use crate::stopwatch::Stopwatch;
 use actor_seat::{Bells, LastLook};
 use base_jobs::{Job, Task};
-use note_journal::{RunningJournal, Sink};
+use note_journal::RunningJournal;
 use run_config::{Clock, Gate};
 
 /// How many turns a worker makes at most before it looks at its links again.
@@ -34,13 +33,6 @@ const MOST_TURNS: u32 = 16;
 
 /// It looks again at once after polls that took so many nanoseconds together.
 const MOST_TIME: u64 = 2_000;
-
-/// Whether one of two steps did anything.
-fn either(one: bool, two: bool) -> bool
-    ensures { result ≡ (one || two) }
-{
-    one || two
-}
 
 /// Whether a look leaves turns that are made without another: there was work, and its core is open, or nothing came.
 fn leaves(worked: bool, came: bool, closed: bool) -> bool
@@ -99,21 +91,6 @@ impl<J: Task<Out = u64>, C: Drop, G: Drop> Rounds<J, C, G> {
         served.into_linked()
     }
 
-    /// Hands all notes that are kept to the sink, if the worker isn't at its end.
-    pub(crate) fn hand_on<S: Sink>(&mut self, sink: &mut S)
-        requires rung { AreRung self.old.served self.old.bells }
-        requires going { self.old.served.ending ≡ false }
-        requires places { HasPlaces self.old.served.linked.recorded }
-        requires passed { S.has sink.old ≡ self.old.served.linked.recorded.journal.passed }
-        ensures hands { HandsOn S.has S.refused S.asks self.old.served.linked sink.old self.new.served.linked sink.new }
-        ensures marked { S.mark sink.new ≡ S.mark sink.old }
-        ensures going { self.new.served.ending ≡ false }
-        ensures rung { AreRung self.new.served self.new.bells }
-        ensures rest { self.new ≡ record self.old { served = self.new.served } }
-    {
-        self.served.hand_on(sink);
-    }
-
     /// Counts a look at the links, which made a turn or none, and plans the turns until the next one: some if it leaves turns, else none.
     fn plan(&mut self, turned: bool, leaves: bool)
         ensures { self.new ≡ record self.old { turns = turns_after leaves; watch = record self.old.watch { last = kept_behind turned self.old.watch.last; taken = 0 }; looks = once_more self.old.looks } }
@@ -134,7 +111,7 @@ impl<J: Task<Out = u64>, C: Drop, G: Drop> Rounds<J, C, G> {
         if self.served.has_turn() {
             return false;
         }
-        !self.served.shows()
+        !self.served.linked.seat.shows()
     }
 
     /// Whether a turn is made without a look at the links. It counts as made.
@@ -169,7 +146,7 @@ impl<J: Task<Out = u64>, C: Drop, G: Drop> Rounds<J, C, G> {
         let shut = self.served.close_gates();
         let delivered = self.served.deliver_all();
         ring_since(&mut self.bells, self.served.journal(), before);
-        either(shut, delivered)
+        shut | delivered
     }
 }
 
@@ -198,7 +175,7 @@ impl<J: Job + Task<Out = u64>, C: Clock + Drop, G: Gate + Drop> Rounds<J, C, G> 
         requires rung { AreRung self.old.served self.old.bells }
         ensures steps { StepsServed self.old.served result self.new.served }
         ensures few { TurnsFew self.old.served self.new.served }
-        ensures takes { TurnsWith J.meaning C.Reads G.Asked self.old.watch self.new.watch self.old.gate self.new.gate self.old.served result self.new.served }
+        ensures takes { TakesTurn J.meaning (TimesNext C.Reads) G.Asked self.old.watch self.new.watch self.old.gate self.new.gate self.old.served result self.new.served }
         ensures asks { AsksSince G.Asked self.old.served.linked.recorded.core.core self.old.served.linked.recorded.journal.notes self.new.served.linked.recorded.journal.notes self.old.gate self.new.gate }
         ensures rung { AreRung self.new.served self.new.bells }
         ensures names { self.new.bells.names ≡ self.old.bells.names }
@@ -218,7 +195,7 @@ impl<J: Job + Task<Out = u64>, C: Clock + Drop, G: Gate + Drop> Rounds<J, C, G> 
         requires rung { AreRung self.old.served self.old.bells }
         ensures steps { StepsServed self.old.served result self.new.served }
         ensures few { RoundsFew self.old.served self.new.served }
-        ensures looks { LooksAtAll J.meaning C.Reads G.Asked (round_view self.old.served self.old.watch self.old.gate) result self.new.turns (round_view self.new.served self.new.watch self.new.gate) }
+        ensures looks { LooksAtAll J.meaning C.Reads G.Asked (round_view self.old.served self.old.watch self.old.gate self.old.turns) result (round_view self.new.served self.new.watch self.new.gate self.new.turns) }
         ensures counts { self.new.looks ≡ once_more self.old.looks }
         ensures asks { AsksSince G.Asked self.old.served.linked.recorded.core.core self.old.served.linked.recorded.journal.notes self.new.served.linked.recorded.journal.notes self.old.gate self.new.gate }
         ensures rung { AreRung self.new.served self.new.bells }
@@ -227,10 +204,10 @@ impl<J: Job + Task<Out = u64>, C: Clock + Drop, G: Gate + Drop> Rounds<J, C, G> 
         let taken = self.take_in();
         let turned = self.take_turn(local);
         let collected = self.gather();
-        let came = either(taken, collected);
+        let came = taken | collected;
         let closed = self.served.is_closed();
         self.plan(turned, leaves(turned, came, closed));
-        either(turned, came)
+        turned | came
     }
 
     /// Makes a turn without a look at the links, if one is left. Whether there was work.
@@ -238,7 +215,7 @@ impl<J: Job + Task<Out = u64>, C: Clock + Drop, G: Gate + Drop> Rounds<J, C, G> 
         requires rung { AreRung self.old.served self.old.bells }
         ensures steps { StepsServed self.old.served result self.new.served }
         ensures few { TurnsFew self.old.served self.new.served }
-        ensures alone { TurnsAlone J.meaning C.Reads G.Asked self.old.turns (round_view self.old.served self.old.watch self.old.gate) result self.new.turns (round_view self.new.served self.new.watch self.new.gate) }
+        ensures alone { TurnsAlone J.meaning C.Reads G.Asked (round_view self.old.served self.old.watch self.old.gate self.old.turns) result (round_view self.new.served self.new.watch self.new.gate self.new.turns) }
         ensures asks { AsksSince G.Asked self.old.served.linked.recorded.core.core self.old.served.linked.recorded.journal.notes self.new.served.linked.recorded.journal.notes self.old.gate self.new.gate }
         ensures rung { AreRung self.new.served self.new.bells }
         ensures names { self.new.bells.names ≡ self.old.bells.names }
@@ -255,7 +232,7 @@ impl<J: Job + Task<Out = u64>, C: Clock + Drop, G: Gate + Drop> Rounds<J, C, G> 
         requires rung { AreRung self.old.served self.old.bells }
         ensures steps { StepsServed self.old.served result self.new.served }
         ensures few { RoundsFew self.old.served self.new.served }
-        ensures makes { MakesRound J.meaning C.Reads G.Asked was_idle self.old.turns (round_view self.old.served self.old.watch self.old.gate) result self.new.turns (round_view self.new.served self.new.watch self.new.gate) }
+        ensures makes { MakesRound J.meaning C.Reads G.Asked was_idle (round_view self.old.served self.old.watch self.old.gate self.old.turns) result (round_view self.new.served self.new.watch self.new.gate self.new.turns) }
         ensures asks { AsksSince G.Asked self.old.served.linked.recorded.core.core self.old.served.linked.recorded.journal.notes self.new.served.linked.recorded.journal.notes self.old.gate self.new.gate }
         ensures rung { AreRung self.new.served self.new.bells }
         ensures names { self.new.bells.names ≡ self.old.bells.names }
@@ -280,7 +257,7 @@ impl<J: Job + Task<Out = u64>, C: Clock + Drop, G: Gate + Drop> LastLook for Rou
 
     ghost IsReady = { λ rounds. AreRung rounds.served rounds.bells };
 
-    ghost Looks = { λ old some new. LooksAgain J.meaning C.Reads G.Asked old.looks old.bells (round_view old.served old.watch old.gate) some new.looks new.bells new.turns (round_view new.served new.watch new.gate) };
+    ghost Looks = { λ old some new. LooksAgain J.meaning C.Reads G.Asked old.looks old.bells (round_view old.served old.watch old.gate old.turns) some new.looks new.bells (round_view new.served new.watch new.gate new.turns) };
 
     fn look_again(&mut self, local: &mut J::Local) -> bool {
         Rounds::look(self, local)

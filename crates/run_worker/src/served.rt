@@ -49,7 +49,7 @@ fn is_work(made: Turned) -> bool
 /// turn is open.
 #[derive(Drop)]
 pub struct Served<J: Task<Out = u64>> {
-    linked: Linked<J>,
+    pub(crate) linked: Linked<J>,
     ending: bool,
     /// The core closed by itself.
     alone: bool,
@@ -269,11 +269,6 @@ impl<J: Task<Out = u64>> Served<J> {
             }
         }
         some
-    }
-
-    /// Whether a link shows what wasn't seen yet. No clause says that the answer is right.
-    pub(crate) fn shows(&self) -> bool {
-        self.linked.seat.shows()
     }
 
     /// Whether a turn would poll a job or hand one back.

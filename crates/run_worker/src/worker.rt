@@ -23,7 +23,6 @@ ghost use Rattle.run_worker.specs.Workers.{HasNotBegun, IsBellOf, KeepsOn, serve
 
 use crate::ended::Ended;
 use crate::linked::hand_on;
-use crate::quiet::rest;
 use crate::rounds::Rounds;
 use crate::served::Served;
 use crate::showing::{SHOWN_EACH, show_on};
@@ -148,7 +147,7 @@ impl<J: Task<Out = u64>, C: Drop, G: Drop, S: Sink> Worker<J, C, G, S> {
         ensures marked { S.mark self.new.sink ≡ S.mark self.old.sink }
     {
         if self.rounds.served.is_due() {
-            self.rounds.hand_on(&mut self.sink);
+            self.rounds.served.hand_on(&mut self.sink);
         }
     }
 
@@ -159,7 +158,7 @@ impl<J: Task<Out = u64>, C: Drop, G: Drop, S: Sink> Worker<J, C, G, S> {
         ensures marked { S.mark self.new.sink ≡ S.mark self.old.sink }
     {
         if self.rounds.served.is_due_at_rest() {
-            self.rounds.hand_on(&mut self.sink);
+            self.rounds.served.hand_on(&mut self.sink);
         }
     }
 
@@ -228,13 +227,13 @@ impl<J: Task<Out = u64>, C: Drop, G: Drop, S: Sink> Worker<J, C, G, S> {
 impl<J: Job + Task<Out = u64>, C: Clock + Drop, G: Gate + Drop, S: Sink> Worker<J, C, G, S> {
     /// Passes on what is kept, lies down, looks once more, and parks until its bell rings if there was nothing. Whether it slept.
     fn rests<R: Wait>(&mut self, rt: &R) -> bool
-        ensures rests { Rests J.meaning C.Reads G.Asked S.has S.refused S.asks self.old result self.new }
+        ensures rests { Rests J.meaning C.Reads G.Asked S.Sink self.old result self.new }
         ensures runs { RunsOn self.old.linked self.new.linked }
         ensures asks { AsksSince G.Asked self.old.linked.recorded.core.core self.old.linked.recorded.journal.notes self.new.linked.recorded.journal.notes self.old.gate self.new.gate }
         ensures marked { S.mark self.new.sink ≡ S.mark self.old.sink }
     {
         self.hand_on_if_kept();
-        match rest(rt, &self.own, &mut self.rounds, &mut self.local) {
+        match self.own.rest(rt, &mut self.rounds, &mut self.local) {
             Some(_) => true,
             None => {
                 self.idle = 0;
@@ -246,7 +245,7 @@ impl<J: Job + Task<Out = u64>, C: Clock + Drop, G: Gate + Drop, S: Sink> Worker<
     /// Passes on what is kept if the journal is low, and makes one round. Whether the next one is made at once: unless nothing was to be done in
     /// it and in so many rounds before it.
     fn goes_on(&mut self) -> bool
-        ensures goes { GoesOn J.meaning C.Reads G.Asked S.has S.refused S.asks self.old result self.new }
+        ensures goes { GoesOn J.meaning C.Reads G.Asked S.Sink self.old result self.new }
         ensures runs { RunsOn self.old.linked self.new.linked }
         ensures asks { AsksSince G.Asked self.old.linked.recorded.core.core self.old.linked.recorded.journal.notes self.new.linked.recorded.journal.notes self.old.gate self.new.gate }
         ensures marked { S.mark self.new.sink ≡ S.mark self.old.sink }
@@ -266,7 +265,7 @@ impl<J: Job + Task<Out = u64>, C: Clock + Drop, G: Gate + Drop, S: Sink> Worker<
 
     /// Makes one round. If the next one isn't made at once, it publishes and rests.
     fn serve_once<R: Wait>(&mut self, rt: &R)
-        ensures serves { ServesOnce J.meaning C.Reads G.Asked S.has S.refused S.asks self.old self.new }
+        ensures serves { ServesOnce J.meaning C.Reads G.Asked S.Sink self.old self.new }
         ensures runs { RunsOn self.old.linked self.new.linked }
         ensures asks { AsksSince G.Asked self.old.linked.recorded.core.core self.old.linked.recorded.journal.notes self.new.linked.recorded.journal.notes self.old.gate self.new.gate }
         ensures marked { S.mark self.new.sink ≡ S.mark self.old.sink }
@@ -280,7 +279,7 @@ impl<J: Job + Task<Out = u64>, C: Clock + Drop, G: Gate + Drop, S: Sink> Worker<
 
     /// Publishes if it is time, makes one round, and rests if the next one isn't made at once. If the worker came to its end, it publishes at once.
     fn serve<R: Wait>(&mut self, rt: &R)
-        ensures serves { Serves J.meaning C.Reads G.Asked S.has S.refused S.asks self.old self.new }
+        ensures serves { Serves J.meaning C.Reads G.Asked S.Sink self.old self.new }
         ensures runs { RunsOn self.old.linked self.new.linked }
         ensures asks { AsksSince G.Asked self.old.linked.recorded.core.core self.old.linked.recorded.journal.notes self.new.linked.recorded.journal.notes self.old.gate self.new.gate }
         ensures marked { S.mark self.new.sink ≡ S.mark self.old.sink }
@@ -302,7 +301,7 @@ impl<J: Job + Task<Out = u64>, C: Clock + Drop, G: Gate + Drop, S: Sink> Work
     for Worker<J, C, G, S> {
     fn run<R: Wait>(self, rt: &R) -> Ended<J, S>
         ensures keeps { KeepsOn S.mark self result }
-        ensures serves { ServesToItsEnd J.meaning C.Reads G.Asked S.has S.refused S.asks self result }
+        ensures serves { ServesToItsEnd J.meaning C.Reads G.Asked S.Sink self result }
         ensures asks { (gate : G) × AsksSince G.Asked self.linked.recorded.core.core self.linked.recorded.journal.notes result.linked.recorded.journal.notes self.gate gate }
     {
         let mut worker = self;

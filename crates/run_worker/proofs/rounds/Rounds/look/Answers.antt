@@ -1,4 +1,4 @@
-use Rattle.run_worker.proofs.Names.{ap, AreRung, CollectsFirst, core_mode, is_some, kept_behind, leaves_turns, once_more, polls_of, RoundsFew, StepsServed, subst, sym, turns_after, watch_view, ◌∙◌}
+use Rattle.run_worker.proofs.Names.{ap, AreRung, CollectsFirst, core_mode, is_some, kept_behind, leaves_turns, once_more, polls_of, refl, RoundsFew, StepsServed, subst, sym, turns_after, watch_view, ◌∙◌}
 use Rattle.std.specs.Prelude.{◌||◌}
 use Rattle.run_worker.proofs.Asking.{asks_between}
 use Rattle.run_worker.proofs.Fewer.{look_few}
@@ -8,11 +8,10 @@ use Rattle.run_worker.proofs.rounds.Rounds.look.Goals as goal
 
 pub returns-clause-steps : goal.returns-clause-steps
 returns-clause-steps g c =
-    subst (λ some. StepsServed c.args.self.now.served some c.plan.new.self.served) (sym (c.either.ensures ∙ ap (λ came. c.take_turn-turned.result || came) c.either-came.ensures))
-    (subst (λ served. StepsServed c.args.self.now.served (c.take_turn-turned.result || (c.take_in-taken.result || c.gather-collected.result)) served) (sym (ap (λ rounds. rounds.served) c.plan.ensures))
+    subst (λ served. StepsServed c.args.self.now.served (c.take_turn-turned.result || (c.take_in-taken.result || c.gather-collected.result)) served) (sym (ap (λ rounds. rounds.served) c.plan.ensures))
     (steps_three c.take_in-taken.result c.take_turn-turned.result c.gather-collected.result c.args.self.now.served
     c.take_in-taken.new.self.served c.take_turn-turned.new.self.served c.gather-collected.new.self.served
-    c.take_in-taken.ensures.steps c.take_turn-turned.ensures.steps c.gather-collected.ensures.steps))
+    c.take_in-taken.ensures.steps c.take_turn-turned.ensures.steps c.gather-collected.ensures.steps)
 
 pub returns-clause-looks : goal.returns-clause-looks
 returns-clause-looks g c = record {
@@ -37,13 +36,12 @@ returns-clause-looks g c = record {
       subst (λ served. CollectsFirst c.args.self.now.served.linked.recorded.core.cores served) (sym (ap (λ rounds. rounds.served) c.plan.ensures))
       (subst (λ cores. CollectsFirst cores c.gather-collected.new.self.served) (steps_cores c.take_in-taken.ensures.steps c.take_turn-turned.ensures.steps) c.gather-collected.ensures.collects);
   none_behind = ap (λ rounds. polls_of rounds.served.linked.recorded.journal.notes) c.plan.ensures ∙ c.gather-collected.ensures.polls;
-  tells = c.either.ensures ∙ ap (λ came. c.take_turn-turned.result || came) c.either-came.ensures;
+  tells = refl;
   plans =
       ap (λ rounds. rounds.turns) c.plan.ensures
       ∙ ap turns_after (c.leaves.ensures
-      ∙ (ap (λ came. leaves_turns c.take_turn-turned.result came c.is_closed-closed.result) c.either-came.ensures
       ∙ ap (leaves_turns c.take_turn-turned.result (c.take_in-taken.result || c.gather-collected.result))
-      (c.is_closed-closed.ensures ∙ sym (ap (λ rounds. is_some (core_mode rounds.served.linked.recorded.journal.notes)) c.plan.ensures))));
+      (c.is_closed-closed.ensures ∙ sym (ap (λ rounds. is_some (core_mode rounds.served.linked.recorded.journal.notes)) c.plan.ensures)));
   forgets = ap (λ rounds. rounds.watch) c.plan.ensures ∙ ap (λ rounds. watch_view rounds.watch.clock (kept_behind c.take_turn-turned.result rounds.watch.last) 0) c.gather-collected.ensures.rest;
 }
 

@@ -1,4 +1,4 @@
-use Rattle.run_worker.proofs.Names.{ap, arith, BellsView, StepsServed, subst, sym, ◌*◌, ◌+◌, ◌∙◌, ◌≡◌}
+use Rattle.run_worker.proofs.Names.{ap, arith, BellsView, ◌*◌, ◌+◌, ◌∙◌, ◌≡◌}
 use Rattle.run_worker.proofs.Fewer.{few_along}
 use Rattle.run_worker.proofs.Heard.{heard_behind}
 use Rattle.run_worker.proofs.Looked.{shut_behind}
@@ -13,8 +13,7 @@ ring_since-requires g c =
 
 pub returns-clause-steps : goal.returns-clause-steps
 returns-clause-steps g c =
-    subst (λ some. StepsServed c.args.self.now.served some c.deliver_all-delivered.new.self) (sym c.either.ensures)
-    (steps_more c.close_gates-shut.result c.deliver_all-delivered.result c.args.self.now.served c.close_gates-shut.new.self c.deliver_all-delivered.new.self c.close_gates-shut.ensures.steps c.deliver_all-delivered.ensures.steps)
+    steps_more c.close_gates-shut.result c.deliver_all-delivered.result c.args.self.now.served c.close_gates-shut.new.self c.deliver_all-delivered.new.self c.close_gates-shut.ensures.steps c.deliver_all-delivered.ensures.steps
 
 pub returns-clause-hears : goal.returns-clause-hears
 returns-clause-hears g c =

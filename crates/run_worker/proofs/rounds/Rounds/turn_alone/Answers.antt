@@ -1,4 +1,4 @@
-use Rattle.run_worker.proofs.Names.{ap, AreRung, false, inl, inr, PassesLinks, polls_of, refl, round_view, StepsServed, subst, sym, true, TurnsFew, TurnsWith, ◌∙◌}
+use Rattle.run_worker.proofs.Names.{ap, AreRung, false, inl, inr, PassesLinks, polls_of, refl, round_view, StepsServed, subst, sym, TakesTurn, TimesNext, true, TurnsFew, ◌∙◌}
 use Rattle.run_worker.proofs.Asking.{asks_between, asks_none}
 use Rattle.run_worker.proofs.Fewer.{few_none}
 use Rattle.run_worker.proofs.Looked.{turns_same}
@@ -20,10 +20,11 @@ returns-clause-steps g c = subst (λ served. StepsServed served c.take_turn.resu
 
 pub returns-then-not-passes_links-clause-alone : goal.returns-then-not-passes_links-clause-alone
 returns-then-not-passes_links-clause-alone g c =
+    let passes = subst (λ passes. PassesLinks c.args.self.now.watch.taken c.args.self.now.turns passes c.passes_links.new.self.turns) c.if-not-passes_links.true c.passes_links.ensures.passes in
     inl (
-      subst (λ passes. PassesLinks c.args.self.now.watch.taken c.args.self.now.turns passes c.passes_links.new.self.turns) c.if-not-passes_links.true c.passes_links.ensures.passes,
+      passes,
       refl,
-      ap (λ rounds. round_view rounds.served rounds.watch rounds.gate) c.passes_links.ensures.rest,
+      ap (λ rounds. round_view rounds.served rounds.watch rounds.gate rounds.turns) c.passes_links.ensures.rest ∙ ap (round_view c.args.self.now.served c.args.self.now.watch c.args.self.now.gate) passes.1,
     )
 
 pub returns-then-not-passes_links-clause-asks : goal.returns-then-not-passes_links-clause-asks
@@ -39,7 +40,7 @@ returns-clause-alone g c =
       turns_same g.J.Task.meaning g.C.Clock.Reads g.G.Gate.Asked c.args.self.now.watch c.passes_links.new.self.watch c.take_turn.new.self.watch c.args.self.now.gate c.passes_links.new.self.gate
           c.take_turn.new.self.gate c.take_turn.new.self.gate c.args.self.now.served c.take_turn.new.self.served c.take_turn.result (ap (λ rounds. rounds.watch) c.passes_links.ensures.rest)
           (ap (λ rounds. rounds.gate) c.passes_links.ensures.rest) refl
-          (subst (λ served. TurnsWith g.J.Task.meaning g.C.Clock.Reads g.G.Gate.Asked c.passes_links.new.self.watch c.take_turn.new.self.watch c.passes_links.new.self.gate c.take_turn.new.self.gate served c.take_turn.result
+          (subst (λ served. TakesTurn g.J.Task.meaning (TimesNext g.C.Clock.Reads) g.G.Gate.Asked c.passes_links.new.self.watch c.take_turn.new.self.watch c.passes_links.new.self.gate c.take_turn.new.self.gate served c.take_turn.result
           c.take_turn.new.self.served) (ap (λ rounds. rounds.served) c.passes_links.ensures.rest) c.take_turn.ensures.takes),
       subst (λ served. StepsServed served c.take_turn.result c.take_turn.new.self.served) (ap (λ rounds. rounds.served) c.passes_links.ensures.rest) c.take_turn.ensures.steps,
     )

@@ -1,6 +1,9 @@
-use Rattle.run_worker.proofs.Names.{Ahead, all_used, arith, false≢true, has_work, HasNoTurn, idle, inl, inr, IsRecorded, Meaning, PickError, RecordedView, ServedView, some_front, subst, sym, TellsAhead, turns, waiting_of, works, ℕ, [], ◌-◌}
+use Rattle.run_worker.proofs.Names.{all_used, arith, false≢true, has_work, HasNoTurn, idle, inl, inr, IsRecorded, Meaning, RecordedView, ServedView, some_front, subst, sym, turns, waiting_of, works, ℕ, [], ◌-◌}
 use Rattle.run_worker.proofs.Names.{◌<◌, ◌^◌, ◌∙◌, ◌≡◌}
 use Rattle.std.proofs.Common.{false}
+use Rattle.core_core.specs.Whole.{TellsAhead}
+use Rattle.core_core.specs.declared.turn.Ahead.{Ahead}
+use Rattle.core_core.specs.declared.turn.PickError.{PickError}
 use Rattle.std.specs.Prelude.{Ok, Err}
 use Rattle.run_worker.proofs.served.Served.has_turn.Goals as goal
 

@@ -33,7 +33,7 @@ invariant_of-self-else-self g c = (
 
 pub returns-then-round-clause-goes : goal.returns-then-round-clause-goes
 returns-then-round-clause-goes g c =
-    goes g.J.Task.meaning g.C.Clock.Reads g.G.Gate.Asked g.S.Sink.has g.S.Sink.refused g.S.Sink.asks c.args.self.now c.hand_on_if_low.new.self _ _ c.round.result true true c.self.view_is c.hand_on_if_low.ensures.hands c.if-round.true c.round.ensures.makes (refl, refl) refl
+    goes g.J.Task.meaning g.C.Clock.Reads g.G.Gate.Asked g.S.Sink c.args.self.now c.hand_on_if_low.new.self _ _ c.round.result true true c.self.view_is c.hand_on_if_low.ensures.hands c.if-round.true c.round.ensures.makes (refl, refl) refl
     c.round.ensures.names refl refl refl
 
 pub returns-then-round-clause-runs : goal.returns-then-round-clause-runs
@@ -45,7 +45,7 @@ returns-then-round-clause-asks g c =
 
 pub returns-then-self-clause-goes : goal.returns-then-self-clause-goes
 returns-then-self-clause-goes g c =
-    goes g.J.Task.meaning g.C.Clock.Reads g.G.Gate.Asked g.S.Sink.has g.S.Sink.refused g.S.Sink.asks c.args.self.now c.hand_on_if_low.new.self _ _ c.round.result false true c.self.view_is c.hand_on_if_low.ensures.hands c.if-round.false c.round.ensures.makes (omega (arith, c.if-self.true), refl) refl
+    goes g.J.Task.meaning g.C.Clock.Reads g.G.Gate.Asked g.S.Sink c.args.self.now c.hand_on_if_low.new.self _ _ c.round.result false true c.self.view_is c.hand_on_if_low.ensures.hands c.if-round.false c.round.ensures.makes (omega (arith, c.if-self.true), refl) refl
     c.round.ensures.names refl refl refl
 
 pub returns-then-self-clause-runs : goal.returns-then-self-clause-runs
@@ -57,7 +57,7 @@ returns-then-self-clause-asks g c =
 
 pub returns-clause-goes : goal.returns-clause-goes
 returns-clause-goes g c =
-    goes g.J.Task.meaning g.C.Clock.Reads g.G.Gate.Asked g.S.Sink.has g.S.Sink.refused g.S.Sink.asks c.args.self.now c.hand_on_if_low.new.self _ _ c.round.result false false c.self.view_is c.hand_on_if_low.ensures.hands c.if-round.false c.round.ensures.makes
+    goes g.J.Task.meaning g.C.Clock.Reads g.G.Gate.Asked g.S.Sink c.args.self.now c.hand_on_if_low.new.self _ _ c.round.result false false c.self.view_is c.hand_on_if_low.ensures.hands c.if-round.false c.round.ensures.makes
     (omega (arith, c.if-self.false), refl) refl c.round.ensures.names refl refl refl
 
 pub returns-clause-runs : goal.returns-clause-runs

@@ -18,13 +18,13 @@ pub returns-then-not-goes_on-clause-serves : goal.returns-then-not-goes_on-claus
 returns-then-not-goes_on-clause-serves g c =
     inr (
       c.goes_on.new.self,
-      subst (λ again. GoesOn g.J.Task.meaning g.C.Clock.Reads g.G.Gate.Asked g.S.Sink.has g.S.Sink.refused g.S.Sink.asks c.args.self.now again c.goes_on.new.self) c.if-not-goes_on.true c.goes_on.ensures.goes,
+      subst (λ again. GoesOn g.J.Task.meaning g.C.Clock.Reads g.G.Gate.Asked g.S.Sink c.args.self.now again c.goes_on.new.self) c.if-not-goes_on.true c.goes_on.ensures.goes,
       (c.show.new.self, c.show.ensures, (c.rests.result, c.rests.ensures.rests)),
     )
 
 pub returns-else-not-goes_on-clause-serves : goal.returns-else-not-goes_on-clause-serves
 returns-else-not-goes_on-clause-serves g c =
-    inl (subst (λ again. GoesOn g.J.Task.meaning g.C.Clock.Reads g.G.Gate.Asked g.S.Sink.has g.S.Sink.refused g.S.Sink.asks c.args.self.now again c.goes_on.new.self) c.if-not-goes_on.false c.goes_on.ensures.goes)
+    inl (subst (λ again. GoesOn g.J.Task.meaning g.C.Clock.Reads g.G.Gate.Asked g.S.Sink c.args.self.now again c.goes_on.new.self) c.if-not-goes_on.false c.goes_on.ensures.goes)
 
 pub returns-then-not-goes_on-clause-marked : goal.returns-then-not-goes_on-clause-marked
 returns-then-not-goes_on-clause-marked g c =

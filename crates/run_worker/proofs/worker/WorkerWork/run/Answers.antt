@@ -31,7 +31,7 @@ loop-preserved g c = (
   runs_along c.args.self.linked c.loop.worker.linked c.serve.new.self.linked c.loop.invariant.3 c.serve.ensures.runs,
   asks_then g.G.Gate.Asked c.args.self.linked.recorded.core.core c.loop.worker.linked.recorded.core.core c.args.self.linked.recorded.journal.notes c.loop.worker.linked.recorded.journal.notes c.serve.new.self.linked.recorded.journal.notes
       c.args.self.gate c.loop.worker.gate c.serve.new.self.gate (ap (λ terms. terms.actor) c.loop.invariant.3.seat) c.loop.invariant.4 c.serve.ensures.asks,
-  serves_board g.J.Task.meaning g.C.Clock.Reads g.G.Gate.Asked g.S.Sink.has g.S.Sink.refused g.S.Sink.asks c.loop.worker c.serve.new.self c.serve.ensures.serves ∙ c.loop.invariant.5,
+  serves_board g.J.Task.meaning g.C.Clock.Reads g.G.Gate.Asked g.S.Sink c.loop.worker c.serve.new.self c.serve.ensures.serves ∙ c.loop.invariant.5,
   c.serve.ensures.marked ∙ c.loop.invariant.6,
 )
 
