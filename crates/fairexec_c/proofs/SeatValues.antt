@@ -1,4 +1,4 @@
--- What is owned of a `Handle` at its machine value: nothing at null, else the box behind the address. Assumes `Logic`.
+-- What is owned of a `SeatHandle` at its machine value: nothing at null, else the box behind the address. Assumes `Logic`.
 use Rattle.std.proofs.Common.{◌≡◌, ℕ, List, [], ◌∷◌, ◌++◌, refl, subst}
 use seplogic.Ra.Ura.{Ura}
 use mir.Syntax.{impl, tnil, dnil}
@@ -34,7 +34,7 @@ use Rattle.std_alloc.proofs.ResultValues.{and_tt}
 use Rattle.base_sealed.proofs.Values.{pair}
 use Rattle.fairexec_c.specs.Handles.{held}
 use Rattle.host_calls.specs.contracts.member.Member as hosted
-use Rattle.fairexec_c.specs.contracts.seat.Handle as handle
+use Rattle.fairexec_c.specs.contracts.seat.SeatHandle as handle
 
 abbrev pub Z : RattleType
 Z = global.the_row

@@ -6,7 +6,7 @@ ghost use Rattle.fairexec_c.specs.Handles.{Frees, OnCore};
 ghost use Rattle.fairexec_c.specs.Houses.{EndsIn, EndsInto, OpensHouse, OpensOn, TakesFrom, TakesInto};
 ghost use Rattle.host_calls.specs.Members.{IsHouse};
 
-use crate::seat::{Handle, put, take};
+use crate::seat::{SeatHandle, put, take};
 use host_calls::house::{Config, KeptHouse};
 use host_calls::verdicts::VerdictTold;
 use host_calls::{Code, Member, number};
@@ -14,7 +14,7 @@ use std::alloc::Global;
 
 /// Opens a house.
 #[unsafe(no_mangle)]
-pub extern "C" fn fx_house_open(alloc: Global, house: &mut Handle, config: &Config) -> u32
+pub extern "C" fn fx_house_open(alloc: Global, house: &mut SeatHandle, config: &Config) -> u32
     ensures { OpensHouse house.old.value config.now result house.new.value }
 {
     match take(alloc, house) {
@@ -27,7 +27,7 @@ pub extern "C" fn fx_house_open(alloc: Global, house: &mut Handle, config: &Conf
 }
 
 /// Opens a house for an empty handle.
-fn open(alloc: Global, house: &mut Handle, config: &Config) -> Code
+fn open(alloc: Global, house: &mut SeatHandle, config: &Config) -> Code
     requires { house.old.value ≡ None }
     ensures { OpensOn config.now result house.new.value }
 {
@@ -47,8 +47,8 @@ fn open(alloc: Global, house: &mut Handle, config: &Config) -> Code
 #[unsafe(no_mangle)]
 pub extern "C" fn fx_house_take(
     alloc: Global,
-    house: &mut Handle,
-    seat: &mut Handle,
+    house: &mut SeatHandle,
+    seat: &mut SeatHandle,
     actor: &mut u32,
 ) -> u32
     ensures { TakesFrom house.old.value seat.old.value actor.old result house.new.value seat.new.value actor.new }
@@ -66,7 +66,7 @@ pub extern "C" fn fx_house_take(
 }
 
 /// Moves the next seat of a house into a handle that has to be empty.
-fn take_into(alloc: Global, kept: &mut Member, seat: &mut Handle, actor: &mut u32) -> Code
+fn take_into(alloc: Global, kept: &mut Member, seat: &mut SeatHandle, actor: &mut u32) -> Code
     requires { IsHouse kept.old }
     ensures { TakesInto kept.old seat.old.value actor.old result kept.new seat.new.value actor.new }
 {
@@ -86,7 +86,7 @@ fn take_into(alloc: Global, kept: &mut Member, seat: &mut Handle, actor: &mut u3
 
 /// Ends a seat, and hands its journal to the house.
 #[unsafe(no_mangle)]
-pub extern "C" fn fx_house_end(alloc: Global, house: &mut Handle, seat: &mut Handle) -> u32
+pub extern "C" fn fx_house_end(alloc: Global, house: &mut SeatHandle, seat: &mut SeatHandle) -> u32
     ensures { EndsIn house.old.value seat.old.value result house.new.value seat.new.value }
 {
     let Some(mut kept) = take(alloc, house) else {
@@ -98,7 +98,7 @@ pub extern "C" fn fx_house_end(alloc: Global, house: &mut Handle, seat: &mut Han
 }
 
 /// Ends the seat of a handle in a house.
-fn end_into(alloc: Global, kept: &mut Member, seat: &mut Handle) -> Code
+fn end_into(alloc: Global, kept: &mut Member, seat: &mut SeatHandle) -> Code
     ensures { EndsInto kept.old seat.old.value result kept.new seat.new.value }
 {
     let Some(member) = take(alloc, seat) else {
@@ -117,7 +117,7 @@ fn end_into(alloc: Global, kept: &mut Member, seat: &mut Handle) -> Code
 #[unsafe(no_mangle)]
 pub extern "C" fn fx_house_audit(
     alloc: Global,
-    house: &mut Handle,
+    house: &mut SeatHandle,
     verdict: &mut VerdictTold,
 ) -> u32
     ensures house { OnCore house.old.value house.new.value result (λ old told new. AuditsTold old verdict.old told verdict.new new) }
@@ -135,7 +135,7 @@ pub extern "C" fn fx_house_audit(
 #[unsafe(no_mangle)]
 pub extern "C" fn fx_house_text(
     alloc: Global,
-    house: &mut Handle,
+    house: &mut SeatHandle,
     from: u64,
     bytes: &mut [u8],
     count: &mut u64,
@@ -153,7 +153,7 @@ pub extern "C" fn fx_house_text(
 
 /// Frees a house, with what is left in it.
 #[unsafe(no_mangle)]
-pub extern "C" fn fx_house_free(alloc: Global, house: &mut Handle) -> u32
+pub extern "C" fn fx_house_free(alloc: Global, house: &mut SeatHandle) -> u32
     ensures { Frees house.old.value result house.new.value }
 {
     free(alloc, house)
@@ -161,14 +161,14 @@ pub extern "C" fn fx_house_free(alloc: Global, house: &mut Handle) -> u32
 
 /// Frees a seat.
 #[unsafe(no_mangle)]
-pub extern "C" fn fx_seat_free(alloc: Global, seat: &mut Handle) -> u32
+pub extern "C" fn fx_seat_free(alloc: Global, seat: &mut SeatHandle) -> u32
     ensures { Frees seat.old.value result seat.new.value }
 {
     free(alloc, seat)
 }
 
 /// Frees what a handle holds.
-fn free(alloc: Global, seat: &mut Handle) -> u32
+fn free(alloc: Global, seat: &mut SeatHandle) -> u32
     ensures { Frees seat.old.value result seat.new.value }
 {
     match take(alloc, seat) {

@@ -12,13 +12,13 @@ use std::marker::{Model, Send};
 /// The address of a house or of a seat, or null. Who has it, has what stands there.
 #[repr(C)]
 #[derive(Drop)]
-pub struct Handle {
+pub struct SeatHandle {
     at: *mut u8,
     alloc: Global,
     pub ghost value: { Option Member },
 }
 
-impl Model for Handle {
+impl Model for SeatHandle {
     ghost use Rattle.std.specs.Prelude.{Option};
     ghost use Rattle.fairexec_c.specs.Handles.{held};
     ghost use Rattle.host_calls.specs.declared.member.Member.{Member};
@@ -28,34 +28,34 @@ impl Model for Handle {
 }
 
 // What it holds may go to another thread.
-unsafe impl Send for Handle {}
+unsafe impl Send for SeatHandle {}
 
 /// Forgets the type of what stands at the address.
-fn seal(loose: Loose<Member, Global>) -> Handle
+fn seal(loose: Loose<Member, Global>) -> SeatHandle
     ensures { result.value ≡ Some loose.value }
 {
     let Loose { at, alloc } = loose;
-    Handle {
+    SeatHandle {
         at: at as *mut u8,
         alloc,
     }
 }
 
 /// The empty handle.
-fn vacant(alloc: Global) -> Handle
+fn vacant(alloc: Global) -> SeatHandle
     ensures { result.value ≡ None }
 {
-    Handle {
+    SeatHandle {
         at: std::ptr::null_mut(),
         alloc,
     }
 }
 
 /// Tells the type again, if the handle isn't empty.
-fn unseal(seat: Handle) -> Option<Loose<Member, Global>>
+fn unseal(seat: SeatHandle) -> Option<Loose<Member, Global>>
     ensures { seat.value ≡ inside (λ loose. loose.value) result }
 {
-    let Handle { at, alloc } = seat;
+    let SeatHandle { at, alloc } = seat;
     if at.is_null() {
         None
     } else {
@@ -67,7 +67,7 @@ fn unseal(seat: Handle) -> Option<Loose<Member, Global>>
 }
 
 /// Takes out of a handle what stands there. The handle is empty from then on.
-pub(crate) fn take(alloc: Global, seat: &mut Handle) -> Option<Box<Member>>
+pub(crate) fn take(alloc: Global, seat: &mut SeatHandle) -> Option<Box<Member>>
     ensures empty { seat.new.value ≡ None }
     ensures value { seat.old.value ≡ inside (λ member. member.value) result }
 {
@@ -78,7 +78,7 @@ pub(crate) fn take(alloc: Global, seat: &mut Handle) -> Option<Box<Member>>
 }
 
 /// Puts it into an empty handle.
-pub(crate) fn put(seat: &mut Handle, member: Box<Member>)
+pub(crate) fn put(seat: &mut SeatHandle, member: Box<Member>)
     ensures { seat.new.value ≡ Some member.value }
 {
     *seat = seal(Loose::of(member));

@@ -13,7 +13,7 @@ ghost use Rattle.host_calls.specs.Turns.{NextsTold, SettlesTold, StepsTold, step
 ghost use Rattle.host_text.specs.declared.part.Form.TheVariants as form;
 ghost use Rattle.fairexec_c.specs.Handles.{OnCore};
 
-use crate::seat::{Handle, put, take};
+use crate::seat::{SeatHandle, put, take};
 use host_calls::figures::{CoreFigures, QueueFigures};
 use host_calls::names::Name;
 use host_calls::outcomes::OutcomeTold;
@@ -24,7 +24,7 @@ use std::alloc::Global;
 
 /// Tells which job to run now.
 #[unsafe(no_mangle)]
-pub extern "C" fn fx_seat_next(alloc: Global, seat: &mut Handle, turn: &mut TurnTold) -> u32
+pub extern "C" fn fx_seat_next(alloc: Global, seat: &mut SeatHandle, turn: &mut TurnTold) -> u32
     ensures seat { OnCore seat.old.value seat.new.value result (λ old told new.
         members.OnCore old (turn.new ≡ turn.old) told new (λ before code after. NextsTold before turn.old code turn.new after)) }
     ensures empty { seat.old.value ≡ None → turn.new ≡ turn.old }
@@ -41,7 +41,7 @@ pub extern "C" fn fx_seat_next(alloc: Global, seat: &mut Handle, turn: &mut Turn
 #[unsafe(no_mangle)]
 pub extern "C" fn fx_seat_settle(
     alloc: Global,
-    seat: &mut Handle,
+    seat: &mut SeatHandle,
     step: u32,
     answer: u64,
     spent: u64,
@@ -61,7 +61,7 @@ pub extern "C" fn fx_seat_settle(
 #[unsafe(no_mangle)]
 pub extern "C" fn fx_seat_step(
     alloc: Global,
-    seat: &mut Handle,
+    seat: &mut SeatHandle,
     step: u32,
     answer: u64,
     spent: u64,
@@ -81,7 +81,7 @@ pub extern "C" fn fx_seat_step(
 
 /// Delivers the next order of this actor to the core, if one shows.
 #[unsafe(no_mangle)]
-pub extern "C" fn fx_seat_deliver(alloc: Global, seat: &mut Handle, sender: u32) -> u32
+pub extern "C" fn fx_seat_deliver(alloc: Global, seat: &mut SeatHandle, sender: u32) -> u32
     ensures { OnCore seat.old.value seat.new.value result (λ old told new.
         members.OnCore old (Unit {0}) told new (λ before code after. DeliversTold sender before code after)) }
 {
@@ -95,7 +95,7 @@ pub extern "C" fn fx_seat_deliver(alloc: Global, seat: &mut Handle, sender: u32)
 
 /// Closes the core by itself.
 #[unsafe(no_mangle)]
-pub extern "C" fn fx_seat_close(alloc: Global, seat: &mut Handle, mode: u32) -> u32
+pub extern "C" fn fx_seat_close(alloc: Global, seat: &mut SeatHandle, mode: u32) -> u32
     ensures { OnCore seat.old.value seat.new.value result (λ old told new.
         members.OnCore old (Unit {0}) told new (λ before code after. ClosesTold (mode_of_number mode) before code after)) }
 {
@@ -109,7 +109,7 @@ pub extern "C" fn fx_seat_close(alloc: Global, seat: &mut Handle, mode: u32) -> 
 
 /// Shuts the gate of this actor in the core.
 #[unsafe(no_mangle)]
-pub extern "C" fn fx_seat_shut(alloc: Global, seat: &mut Handle, sender: u32) -> u32
+pub extern "C" fn fx_seat_shut(alloc: Global, seat: &mut SeatHandle, sender: u32) -> u32
     ensures { OnCore seat.old.value seat.new.value result (λ old told new.
         members.OnCore old (Unit {0}) told new (λ before code after. ShutsTold sender before code after)) }
 {
@@ -123,7 +123,7 @@ pub extern "C" fn fx_seat_shut(alloc: Global, seat: &mut Handle, sender: u32) ->
 
 /// Whether the core has come to its end.
 #[unsafe(no_mangle)]
-pub extern "C" fn fx_seat_drained(alloc: Global, seat: &mut Handle) -> u32
+pub extern "C" fn fx_seat_drained(alloc: Global, seat: &mut SeatHandle) -> u32
     ensures { OnCore seat.old.value seat.new.value result (λ old told new.
         members.OnCore old (Unit {0}) told new (λ before code after. (after ≡ before) × IsTold before code)) }
 {
@@ -139,7 +139,7 @@ pub extern "C" fn fx_seat_drained(alloc: Global, seat: &mut Handle) -> u32
 #[unsafe(no_mangle)]
 pub extern "C" fn fx_seat_collect(
     alloc: Global,
-    seat: &mut Handle,
+    seat: &mut SeatHandle,
     core: u32,
     count: &mut u64,
 ) -> u32
@@ -158,7 +158,7 @@ pub extern "C" fn fx_seat_collect(
 #[unsafe(no_mangle)]
 pub extern "C" fn fx_seat_redeem(
     alloc: Global,
-    seat: &mut Handle,
+    seat: &mut SeatHandle,
     name: &Name,
     outcome: &mut OutcomeTold,
 ) -> u32
@@ -175,7 +175,7 @@ pub extern "C" fn fx_seat_redeem(
 
 /// Nobody will ask for the outcome of a submission.
 #[unsafe(no_mangle)]
-pub extern "C" fn fx_seat_detach(alloc: Global, seat: &mut Handle, name: &Name) -> u32
+pub extern "C" fn fx_seat_detach(alloc: Global, seat: &mut SeatHandle, name: &Name) -> u32
     ensures { OnCore seat.old.value seat.new.value result (λ old told new. DetachesTold old name.now told new) }
 {
     let Some(mut member) = take(alloc, seat) else {
@@ -190,7 +190,7 @@ pub extern "C" fn fx_seat_detach(alloc: Global, seat: &mut Handle, name: &Name) 
 #[unsafe(no_mangle)]
 pub extern "C" fn fx_seat_pass_on(
     alloc: Global,
-    seat: &mut Handle,
+    seat: &mut SeatHandle,
     bytes: &mut [u8],
     count: &mut u64,
 ) -> u32
@@ -209,7 +209,7 @@ pub extern "C" fn fx_seat_pass_on(
 #[unsafe(no_mangle)]
 pub extern "C" fn fx_seat_notes(
     alloc: Global,
-    seat: &mut Handle,
+    seat: &mut SeatHandle,
     kept: &mut u64,
     free_notes: &mut u64,
 ) -> u32
@@ -228,7 +228,7 @@ pub extern "C" fn fx_seat_notes(
 #[unsafe(no_mangle)]
 pub extern "C" fn fx_seat_copy(
     alloc: Global,
-    seat: &mut Handle,
+    seat: &mut SeatHandle,
     from: u64,
     most: u64,
     bytes: &mut [u8],
@@ -252,7 +252,7 @@ pub extern "C" fn fx_seat_copy(
 #[unsafe(no_mangle)]
 pub extern "C" fn fx_seat_copy_bytes(
     alloc: Global,
-    seat: &mut Handle,
+    seat: &mut SeatHandle,
     before: u64,
     from: u64,
     most: u64,
@@ -274,7 +274,7 @@ pub extern "C" fn fx_seat_copy_bytes(
 
 /// Forgets the notes that the journal keeps, and tells how many they were.
 #[unsafe(no_mangle)]
-pub extern "C" fn fx_seat_forget(alloc: Global, seat: &mut Handle, count: &mut u64) -> u32
+pub extern "C" fn fx_seat_forget(alloc: Global, seat: &mut SeatHandle, count: &mut u64) -> u32
     ensures seat { OnCore seat.old.value seat.new.value result (λ old told new. ForgetsTold old count.old told count.new new) }
     ensures empty { seat.old.value ≡ None → count.new ≡ count.old }
 {
@@ -288,7 +288,7 @@ pub extern "C" fn fx_seat_forget(alloc: Global, seat: &mut Handle, count: &mut u
 
 /// Whether a link shows an order or an outcome that wasn't seen yet.
 #[unsafe(no_mangle)]
-pub extern "C" fn fx_seat_shows(alloc: Global, seat: &mut Handle) -> u32
+pub extern "C" fn fx_seat_shows(alloc: Global, seat: &mut SeatHandle) -> u32
     ensures { OnCore seat.old.value seat.new.value result (λ old told new. ShowsTold old told new) }
 {
     let Some(mut member) = take(alloc, seat) else {
@@ -301,7 +301,11 @@ pub extern "C" fn fx_seat_shows(alloc: Global, seat: &mut Handle) -> u32
 
 /// Tells the counts of a core.
 #[unsafe(no_mangle)]
-pub extern "C" fn fx_seat_stats(alloc: Global, seat: &mut Handle, stats: &mut CoreFigures) -> u32
+pub extern "C" fn fx_seat_stats(
+    alloc: Global,
+    seat: &mut SeatHandle,
+    stats: &mut CoreFigures,
+) -> u32
     ensures seat { OnCore seat.old.value seat.new.value result (λ old told new.
         members.OnCore old (stats.new ≡ stats.old) told new (λ before code after. (after ≡ before) × SeatTells before stats.old code stats.new)) }
     ensures empty { seat.old.value ≡ None → stats.new ≡ stats.old }
@@ -318,7 +322,7 @@ pub extern "C" fn fx_seat_stats(alloc: Global, seat: &mut Handle, stats: &mut Co
 #[unsafe(no_mangle)]
 pub extern "C" fn fx_seat_stats_of_queue(
     alloc: Global,
-    seat: &mut Handle,
+    seat: &mut SeatHandle,
     queue: u32,
     stats: &mut QueueFigures,
 ) -> u32

@@ -6,7 +6,7 @@ ghost use Rattle.host_calls.specs.declared.code.Code.{Code};
 ghost use Rattle.host_calls.specs.Orders.{IsCloseOrder, IsCoreOrder, IsCreateOrder, IsJobOrder, IsSharesOrder, IsWakeOrder, mode_of_number};
 ghost use Rattle.fairexec_c.specs.Seats.{Submits};
 
-use crate::seat::{Handle, put, take};
+use crate::seat::{SeatHandle, put, take};
 use base_words::Order;
 use host_calls::names::Name;
 use host_calls::orders::{
@@ -18,7 +18,7 @@ use std::alloc::Global;
 /// Submits an order to a core, if it could be made.
 fn send(
     alloc: Global,
-    seat: &mut Handle,
+    seat: &mut SeatHandle,
     to: u32,
     order: Result<Order<u64>, Code>,
     name: &mut Name,
@@ -37,7 +37,7 @@ fn send(
 #[unsafe(no_mangle)]
 pub extern "C" fn fx_seat_submit(
     alloc: Global,
-    seat: &mut Handle,
+    seat: &mut SeatHandle,
     to: u32,
     queue: u32,
     job: u64,
@@ -52,7 +52,7 @@ pub extern "C" fn fx_seat_submit(
 #[unsafe(no_mangle)]
 pub extern "C" fn fx_seat_create(
     alloc: Global,
-    seat: &mut Handle,
+    seat: &mut SeatHandle,
     to: u32,
     shares: u32,
     name: &mut Name,
@@ -66,7 +66,7 @@ pub extern "C" fn fx_seat_create(
 #[unsafe(no_mangle)]
 pub extern "C" fn fx_seat_set_shares(
     alloc: Global,
-    seat: &mut Handle,
+    seat: &mut SeatHandle,
     to: u32,
     queue: u32,
     shares: u32,
@@ -81,7 +81,7 @@ pub extern "C" fn fx_seat_set_shares(
 #[unsafe(no_mangle)]
 pub extern "C" fn fx_seat_close_queue(
     alloc: Global,
-    seat: &mut Handle,
+    seat: &mut SeatHandle,
     to: u32,
     queue: u32,
     mode: u32,
@@ -96,7 +96,7 @@ pub extern "C" fn fx_seat_close_queue(
 #[unsafe(no_mangle)]
 pub extern "C" fn fx_seat_close_core(
     alloc: Global,
-    seat: &mut Handle,
+    seat: &mut SeatHandle,
     to: u32,
     mode: u32,
     name: &mut Name,
@@ -108,7 +108,12 @@ pub extern "C" fn fx_seat_close_core(
 
 /// Submits an order that wakes a job, to its core.
 #[unsafe(no_mangle)]
-pub extern "C" fn fx_seat_wake(alloc: Global, seat: &mut Handle, job: &Name, name: &mut Name) -> u32
+pub extern "C" fn fx_seat_wake(
+    alloc: Global,
+    seat: &mut SeatHandle,
+    job: &Name,
+    name: &mut Name,
+) -> u32
     ensures { (order : Result (Order ℕ) Code) × IsWakeOrder job.now order × Submits seat.old.value job.now.to order name.old result name.new seat.new.value }
 {
     send(alloc, seat, job.to, wake_order(job), name)

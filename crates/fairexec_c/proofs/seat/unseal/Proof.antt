@@ -28,7 +28,7 @@ use Rattle.std_heap.specs.contracts.GlobalAllocator.TheImpl as heap
 use Rattle.std_heap.proofs.Global.TheLaws as laws
 use Rattle.base_sealed.proofs.Values.{pair, pair_good, loose_in, Loose}
 use Rattle.fairexec_c.proofs.SeatValues.{R, Z, handle_out, null_good}
-use Rattle.fairexec_c.specs.contracts.seat.Handle as handle
+use Rattle.fairexec_c.specs.contracts.seat.SeatHandle as handle
 use Rattle.fairexec_c.specs.contracts.seat.unseal.{ended, clauses}
 use Rattle.fairexec_c.specs.contracts.seat.unseal.Key.{name as #self}
 use Rattle.fairexec_c.proofs.seat.unseal.Statement.{statement}

@@ -16,7 +16,7 @@ use Rattle.std.proofs.alloc.Global.TheSendSync as heap
 use Rattle.host_calls.proofs.Crosses.{member_send}
 use Rattle.host_calls.specs.contracts.member.Member as member
 use Rattle.fairexec_c.specs.Handles.{held}
-use Rattle.fairexec_c.specs.contracts.seat.Handle.{the_row, the_type}
+use Rattle.fairexec_c.specs.contracts.seat.SeatHandle.{the_row, the_type}
 
 address : IsSend RawPtr
 address = search sendable
