@@ -244,7 +244,7 @@ impl Builder {
         let journal = self.setup.journal.clone();
         self.check()?;
         let notes = self.notes.unwrap_or_else(|| journal.notes(self.places));
-        let config = Config { cores: self.cores, places: self.places, burst: self.burst, notes, journal: journal.linked() };
+        let config = Config { cores: self.cores, places: self.places, burst: self.burst, notes, journal: journal.linked(), ..Config::default() };
         let (house, mut cores, mut outside) = House::open(&config)?;
         self.setup.takers = (0..=self.cores).map(|it| Taker::new(&journal, it)).collect::<Result<_, _>>()?;
         outside.keep(&self.setup.takers[self.cores as usize]);
