@@ -1,6 +1,6 @@
+pub mod Teams
 pub mod Rings
 pub mod State
-pub mod Teams
 pub mod Closings
 pub mod Watching
 pub mod Stored

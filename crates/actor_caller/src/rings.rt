@@ -2,15 +2,17 @@
 //!
 //! Nobody else in this crate has a bell, so nobody else makes one that can be slept on.
 
-ghost use Rattle.std.specs.Prelude.{◌≡◌, ◌+◌, IfOk, length, replicate};
+ghost use Rattle.std.specs.Prelude.{◌≡◌, ◌+◌, IfOk, length};
 ghost use Rattle.actor_seat.specs.Bells.{rung_at};
 ghost use Rattle.actor_caller.specs.Rings.{IsBellOf};
 
+use crate::caller::{Beside, Caller};
 use actor_seat::{Bells, OwnBell};
 use base_jobs::Task;
 use base_words::{ActorNo, CoreNo};
 use link_ring::Ends;
-use std::alloc::{AllocError, Global};
+use note_journal::Sink;
+use std::alloc::AllocError;
 use std::marker::Model;
 use std::snapshot::Snapshot;
 
@@ -42,28 +44,19 @@ impl<J: Task<Out = u64>> Rings<J> {
         }
     }
 
-    /// The bell of the outside actor, which is the last one, in hands of its own, for an `L` to sleep on.
+    /// The bell of the outside actor, which is the last one, in hands of its own, for a caller to sleep on.
     ///
     /// # Errors
     ///
     /// If it is in too many.
-    pub(crate) fn own<L>(&self, actor: ActorNo) -> Result<OwnBell<L>, AllocError>
+    pub(crate) fn own<S: Sink, H: Beside<Job = J>>(
+        &self,
+        actor: ActorNo,
+    ) -> Result<OwnBell<Caller<J, S, H>>, AllocError>
         requires { length self.now.times ≡ actor + 1 }
         ensures { IfOk result (λ own. IsBellOf actor self.now.names own) }
     {
         self.bells.own(actor)
-    }
-
-    /// The same bells, in other hands.
-    ///
-    /// # Errors
-    ///
-    /// If there is no memory.
-    pub(crate) fn again(&self, alloc: Global) -> Result<Bells, AllocError>
-        ensures names { IfOk result (λ bells. bells.names ≡ self.now.names) }
-        ensures rings { IfOk result (λ bells. bells.rings ≡ replicate (length self.now.times) 0) }
-    {
-        self.bells.again(alloc)
     }
 
     /// Tells the worker of this core that there is something for it on these ends.

@@ -1,6 +1,6 @@
 //! The calls of a caller that waits.
 
-ghost use Rattle.std.specs.Prelude.{◌≡◌, ◌<◌, ◌↔◌, IfNone, IfOk, IfSome, IsTrue, is_none, length, replicate};
+ghost use Rattle.std.specs.Prelude.{◌≡◌, ◌<◌, ◌↔◌, IfNone, IfOk, IfSome, IsTrue, is_none, length};
 ghost use Rattle.base_jobs.specs.Ready.{HasReadyJob};
 ghost use Rattle.link_ends.specs.Fits.{Fits};
 ghost use Rattle.actor_caller.specs.Rings.{IsBellOf};
@@ -8,11 +8,11 @@ ghost use Rattle.actor_caller.specs.Waiting.{AreAllPending, CollectsEach, LooksO
 
 use crate::caller::{Beside, Caller};
 use crate::error::SubmitError;
-use actor_seat::{Bells, LastLook, OwnBell, Woken};
+use actor_seat::{LastLook, OwnBell, Woken};
 use base_jobs::Task;
 use base_words::{ActorNo, CoreNo, Order, Outcome, SendError, Ticket, TicketError};
 use note_journal::Sink;
-use std::alloc::{AllocError, Global};
+use std::alloc::AllocError;
 use std::sync::Wait;
 
 /// How often a caller looks for outcomes before it parks.
@@ -20,7 +20,7 @@ const TRIES: u32 = 1024;
 
 impl<J: Task<Out = u64>, S: Sink, H: Beside<Job = J>> Caller<J, S, H> {
     /// Collects all outcomes that the links show, from each core. Whether there was one.
-    pub fn collect_all(&mut self) -> bool
+    pub(crate) fn collect_all(&mut self) -> bool
         ensures collects { CollectsEach self.old self.new }
         ensures told { IsTrue result ↔ (length self.old.desk.journal.notes < length self.new.desk.journal.notes) }
     {
@@ -46,27 +46,15 @@ impl<J: Task<Out = u64>, S: Sink, H: Beside<Job = J>> Caller<J, S, H> {
         self.collect_all()
     }
 
-    /// The caller's own bell, in hands of its own, for an `L` to sleep on: all of the runtime is used while the caller lies down.
+    /// The caller's own bell, in hands of its own: all of the runtime is used while the caller lies down.
     ///
     /// # Errors
     ///
     /// If it is in too many.
-    pub fn own_bell<L>(&self) -> Result<OwnBell<L>, AllocError>
+    fn own_bell(&self) -> Result<OwnBell<Caller<J, S, H>>, AllocError>
         ensures { IfOk result (λ own. IsBellOf self.now.desk.cores self.now.rung.names own) }
     {
         self.bells.own(ActorNo(self.cores))
-    }
-
-    /// The bells of all actors, in hands of their own: who collects for others wakes whoever sleeps on the caller's.
-    ///
-    /// # Errors
-    ///
-    /// If there is no memory.
-    pub fn bells_again(&self, alloc: Global) -> Result<Bells, AllocError>
-        ensures names { IfOk result (λ bells. bells.names ≡ self.now.rung.names) }
-        ensures rings { IfOk result (λ bells. bells.rings ≡ replicate (length self.now.rung.times) 0) }
-    {
-        self.bells.again(alloc)
     }
 
     /// Lies down on the caller's own bell, looks once more at all links, and parks until that bell rings if there was no outcome.
