@@ -3,7 +3,7 @@
 ghost use Rattle.std.specs.Prelude.{◌≡◌, ℕ, length};
 
 /// What a job can answer. A note tells its number, and nothing else of it. Two answers may have one number.
-pub trait Answer: Drop {
+pub trait Noted: Drop {
     ghost number: { Self → ℕ };
 
     /// The number that a note tells.
@@ -12,7 +12,7 @@ pub trait Answer: Drop {
 }
 
 /// A number is noted as it is.
-impl Answer for u64 {
+impl Noted for u64 {
     ghost number = { λ n. n };
 
     fn noted(&self) -> u64 {
@@ -21,7 +21,7 @@ impl Answer for u64 {
 }
 
 /// Nothing is noted as 0.
-impl Answer for () {
+impl Noted for () {
     ghost number = { λ _. 0 };
 
     fn noted(&self) -> u64 {
@@ -30,7 +30,7 @@ impl Answer for () {
 }
 
 /// A list is noted by its length, in items.
-impl<T: Drop> Answer for Vec<T> {
+impl<T: Drop> Noted for Vec<T> {
     ghost number = { λ list. length list.items };
 
     fn noted(&self) -> u64 {
@@ -39,7 +39,7 @@ impl<T: Drop> Answer for Vec<T> {
 }
 
 /// A text is noted by its length, in bytes.
-impl Answer for String {
+impl Noted for String {
     ghost number = { λ text. length text.bytes.items };
 
     fn noted(&self) -> u64 {

@@ -2,7 +2,7 @@
 
 ghost use Rattle.std.specs.Prelude.{◌≡◌, IfNone, IfOk, IfSome, None, Some};
 
-use crate::answer::Answer;
+use crate::answer::Noted;
 use std::alloc::{AllocError, Global};
 use std::marker::Model;
 use std::sync::{Arc, OnceLock};
@@ -52,7 +52,7 @@ pub fn open<A: Drop>(alloc: Global) -> Result<(Reply<A>, Asked<A>), AllocError>
     Ok((reply, Asked { shared }))
 }
 
-impl<A: Answer> Reply<A> {
+impl<A: Noted> Reply<A> {
     /// Fills the place, and gives the number for the job to answer: `Step::Done(reply.fill(answer))`. It waits for nobody and allocates nothing.
     pub fn fill(self, answer: A) -> u64
         ensures { result ≡ A.number answer }
@@ -63,7 +63,7 @@ impl<A: Answer> Reply<A> {
     }
 }
 
-impl<A: Answer> Asked<A> {
+impl<A: Noted> Asked<A> {
     /// The answer, if the place has one with this number: the one that was redeemed. It waits for nobody.
     pub fn answer(&self, number: u64) -> Option<&A>
         ensures { IfSome result (λ answer. A.number answer.now ≡ number) }
@@ -88,7 +88,7 @@ impl<A: Answer> Asked<A> {
 }
 
 /// Takes what is kept, if it has this number.
-fn take_if<A: Answer>(kept: &mut Option<A>, number: u64) -> Option<A>
+fn take_if<A: Noted>(kept: &mut Option<A>, number: u64) -> Option<A>
     ensures number { IfSome result (λ answer. A.number answer ≡ number) }
     ensures taken { IfSome result (λ answer. kept.old ≡ Some answer) }
     ensures gone { IfSome result (λ _. kept.new ≡ None) }

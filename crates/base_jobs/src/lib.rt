@@ -21,7 +21,7 @@ pub mod post;
 pub mod script;
 pub mod state;
 
-pub use answer::Answer;
+pub use answer::Noted;
 pub use any::{AnyJob, OnceBox, Polled, Range, Within, once_job, polled_job};
 pub use asking::{
     Asks, Redeemed, poll_asking, redeem_if_there, submit_and_detach, submit_and_keep,

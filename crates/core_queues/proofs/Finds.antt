@@ -1,6 +1,6 @@
 -- How jobs are found, as lines change.
 use Rattle.core_queues.proofs.Words.{ap, Appends, AreFound, AreSeated, arith, Bool, cases_eq, cases_lt, ContainsKey, false, get, inl, inr, is_some, IsKept, IsSome, JobId, JoinsLines, key_at, LeavesSeat, length, length-replicate, Line}
-use Rattle.core_queues.proofs.Words.{line_at, List, MovesHead, MovesOut, name_at, name_of, Names, next_of, no_line, no_seat, None, Option, parked_counts, parked_keys, Queue, queue_at, refl, Relinks, Renews, replicate, Requeues, Seat}
+use Rattle.core_queues.proofs.Words.{line_at, List, MovesHead, MovesOut, name_at, name_of, Names, next_of, no_line, no_seat, None, Option, parked_counts, parked_keys, Queue, queue_at, refl, Relinks, Renews, replicate, Requeues, ParkedAt}
 use Rattle.core_queues.proofs.Words.{seat_at, set, Slab, slice_index_or, Some, Spot, subst, suc, sym, true, Vacates, Waiting, zero, ℕ, [], ◌+◌, ◌-◌, ◌<◌, ◌∙◌, ◌∷◌, ◌≡◌, ◌≤◌, ◌⊎◌}
 use Rattle.std.proofs.lemmas.List.{length-set}
 use Rattle.core_queues.proofs.Spots.{waits, parks, other_side, placed, ChangesOne-placed, length-placed}
@@ -16,7 +16,7 @@ use Rattle.core_queues.proofs.Takes.{Found, StandsAt, TookOut, is_last, last_is}
 
 module _ {J : Type 0} where
   -- parked jobs and names stay
-  pub AreFound-same : (old new : Slab (Waiting J)) (before after : List Queue) (names : Names) (seats : List Seat) → SameParks old before new after → SameNames old new → new.capacity ≡ old.capacity → AreFound old before names seats → AreFound new after names seats
+  pub AreFound-same : (old new : Slab (Waiting J)) (before after : List Queue) (names : Names) (seats : List ParkedAt) → SameParks old before new after → SameNames old new → new.capacity ≡ old.capacity → AreFound old before names seats → AreFound new after names seats
   AreFound-same old new before after names seats same kept capacity found = record {
     named = Named-same old new names kept found.named;
     seated = AreSeated-same (parked_counts before) (parked_counts after) (parked_keys old before) (parked_keys new after) seats same.counts same.keys found.seated;
@@ -25,13 +25,13 @@ module _ {J : Type 0} where
   }
 
   -- no job is inside
-  pub AreFound-opened : (jobs : Slab (Waiting J)) (first : Queue) (names : Names) (seats : List Seat) → jobs.slots ≡ [] → first.parked.count ≡ 0 → names ≡ replicate jobs.capacity None → seats ≡ replicate jobs.capacity no_seat → AreFound jobs (first ∷ []) names seats
+  pub AreFound-opened : (jobs : Slab (Waiting J)) (first : Queue) (names : Names) (seats : List ParkedAt) → jobs.slots ≡ [] → first.parked.count ≡ 0 → names ≡ replicate jobs.capacity None → seats ≡ replicate jobs.capacity no_seat → AreFound jobs (first ∷ []) names seats
   AreFound-opened jobs first names seats empty none no_names no_seats = record {
     named = λ key. ap (λ n. name_at n key) no_names ∙ none_at jobs.capacity key ∙ sym (ap name_of (ap (λ (slots : List (Option (Waiting J))). slice_index_or slots key None) empty));
     seated = record {
       stands = λ queue place h. absurd (omega (arith, h, counts queue));
       behind = λ queue place h. absurd (omega (arith, h, counts queue));
-      only = λ key is. let both : true ≡ false = sym is ∙ ap (λ (s : List Seat). (seat_at s key).parked) no_seats ∙ ap (λ (s : Seat). s.parked) (vacant_at jobs.capacity key) in absurd (cc);
+      only = λ key is. let both : true ≡ false = sym is ∙ ap (λ (s : List ParkedAt). (seat_at s key).parked) no_seats ∙ ap (λ (s : ParkedAt). s.parked) (vacant_at jobs.capacity key) in absurd (cc);
     };
     names_size = ap length no_names ∙ length-replicate jobs.capacity None;
     seats_size = ap length no_seats ∙ length-replicate jobs.capacity no_seat;
@@ -51,13 +51,13 @@ module _ {J : Type 0} where
       vacant_at (suc n) zero = refl
       vacant_at (suc n) (suc key) = vacant_at n key
 
-module _ {J : Type 0} {old new : Slab (Waiting J)} {queues : List Queue} (names : Names) (seats : List Seat) where
+module _ {J : Type 0} {old new : Slab (Waiting J)} {queues : List Queue} (names : Names) (seats : List ParkedAt) where
   -- an entry has another job
   pub AreFound-renewed : (key : ℕ) (front : Waiting J) (job : J) → Renews old key front job new → AreFound old queues names seats → AreFound new queues names seats
   AreFound-renewed key front job renews found =
       AreFound-same old new queues queues names seats (SameParks-renewed key front (record front { job = job }) (Rewrites-job old new key front job renews)) (SameNames-written old new key front (record front { job = job }) renews.at renews.updates refl) renews.capacity found
 
-module _ {J : Type 0} {room line_places : ℕ} {old : Slab (Waiting J)} {queues : List Queue} (names : Names) (seats : List Seat) where
+module _ {J : Type 0} {room line_places : ℕ} {old : Slab (Waiting J)} {queues : List Queue} (names : Names) (seats : List ParkedAt) where
   -- where the jobs of these keys stand in their lines
   pub found_within : (spot : Spot) (place : ℕ) → IsKept room line_places old queues → AreFound old queues names seats → place < (line_at queues spot).count → key_at (get old) (line_at queues spot).head place < length seats
   found_within spot place kept found h =
@@ -75,7 +75,7 @@ module _ {J : Type 0} {room line_places : ℕ} {old : Slab (Waiting J)} {queues 
       by_size (inl some) = some
       by_size (inr none) = absurd (not_last (last_is spot at kept stands (omega (arith, none, stands.within))))
 
-module _ {J : Type 0} {room line_places : ℕ} {old new : Slab (Waiting J)} {queues : List Queue} (names : Names) (seats : List Seat) where
+module _ {J : Type 0} {room line_places : ℕ} {old new : Slab (Waiting J)} {queues : List Queue} (names : Names) (seats : List ParkedAt) where
   -- a job joins a line
   pub AreFound-joined : (queue : ℕ) (last : Waiting J) (longer : Line) → IsKept room line_places old queues → Appends old (line_at queues (waits queue)) last new longer → queue < length queues → longer.tail < new.capacity → AreFound old queues names seats
       → AreFound new (placed queues (waits queue) longer) (set names longer.tail (Some last.name)) seats
@@ -94,7 +94,7 @@ module _ {J : Type 0} {room line_places : ℕ} {old new : Slab (Waiting J)} {que
       → AreFound new (placed queues (parks queue) longer) (set names longer.tail (Some last.name)) (set seats longer.tail (record { before = (line_at queues (parks queue)).tail; queue = queue; parked = true }))
   AreFound-parked queue last longer kept appends within inside found =
       let join = joined old new (line_at queues) (parks queue) last longer kept.linked appends in
-      let seat : Seat = record { before = (line_at queues (parks queue)).tail; queue = queue; parked = true } in
+      let seat : ParkedAt = record { before = (line_at queues (parks queue)).tail; queue = queue; parked = true } in
       record {
         named = Named-appended old new names (line_at queues (parks queue)) longer last appends (omega (arith, inside, found.names_size, join.capacity)) found.named;
         seated = AreSeated-parked (parked_counts queues) (parked_counts (placed queues (parks queue) longer)) (parked_keys old queues) (parked_keys new (placed queues (parks queue) longer)) seats queue longer.tail seat
@@ -124,7 +124,7 @@ module _ {J : Type 0} {room line_places : ℕ} {old new : Slab (Waiting J)} {que
       let rest = rest_of line moves.front in
       let gone = removed old line.head in
       let left = placed queues (waits queue) rest in
-      let seat : Seat = record { before = (line_at queues (parks queue)).tail; queue = queue; parked = true } in
+      let seat : ParkedAt = record { before = (line_at queues (parks queue)).tail; queue = queue; parked = true } in
       let same = SameParks-left queue moves.front rest kept (Leaves-removed old line moves.front some moves.starts.at) within in
       let once = AreSeated-same (parked_counts queues) (parked_counts left) (parked_keys old queues) (parked_keys gone left) seats same.counts same.keys found.seated in
       let behind = IsKept-behind queue moves.front kept moves.starts.at within some in
@@ -157,7 +157,7 @@ module _ {J : Type 0} {room line_places : ℕ} {old new : Slab (Waiting J)} {que
       by_links (inr more) = more.2.capacity ∙ requeues.starts.capacity
 
   -- all parked jobs of a queue come to its line
-  pub AreFound-unparked : (queue : ℕ) (both : Line) (vacated : List Seat) → IsKept room line_places old queues → JoinsLines old (line_at queues (waits queue)) (line_at queues (parks queue)) new both → queue < length queues
+  pub AreFound-unparked : (queue : ℕ) (both : Line) (vacated : List ParkedAt) → IsKept room line_places old queues → JoinsLines old (line_at queues (waits queue)) (line_at queues (parks queue)) new both → queue < length queues
       → Vacates (parked_keys old queues queue) (parked_counts queues queue) seats vacated → AreFound old queues names seats → AreFound new (placed (placed queues (waits queue) both) (parks queue) no_line) names vacated
   AreFound-unparked queue both vacated kept joins within gone found =
       let after = placed (placed queues (waits queue) both) (parks queue) no_line in
@@ -196,7 +196,7 @@ module _ {J : Type 0} {room line_places : ℕ} {old new : Slab (Waiting J)} {que
       by_move other place was (inr x) = inr (ap (λ (s : Spot). s.queue) x.0, x.1, x.2)
 
   -- its seat is vacant then, and the one behind it knows the one before it
-  pub AreSeated-took : (queue : ℕ) (at : Found) (gone : Waiting J) (shorter : Line) (next : ℕ) (told : List Seat) → IsKept room line_places old queues → queue < length queues → StandsAt old (line_at queues (parks queue)) at → get old at.key ≡ Some gone → next ≡ gone.next
+  pub AreSeated-took : (queue : ℕ) (at : Found) (gone : Waiting J) (shorter : Line) (next : ℕ) (told : List ParkedAt) → IsKept room line_places old queues → queue < length queues → StandsAt old (line_at queues (parks queue)) at → get old at.key ≡ Some gone → next ≡ gone.next
       → suc shorter.count ≡ (line_at queues (parks queue)).count → TookOut room line_places old new queues (parks queue) at.index gone (placed queues (parks queue) shorter) → LeavesSeat seats (line_at queues (parks queue)) at.key next told → AreFound old queues names seats
       → AreSeated (parked_counts (placed queues (parks queue) shorter)) (parked_keys new (placed queues (parks queue) shorter)) told
   AreSeated-took queue at gone shorter next told kept within stands is next_is count took leaves found =

@@ -1,5 +1,5 @@
 -- The seats of parked jobs, as one comes behind the others, as one leaves, and as all of a queue do.
-use Rattle.core_queues.proofs.Words.{ap, AreSeated, arith, cases_eq, cases_lt, false, get_or-set_other, get_or-set_same, HasPlace, HasSeat, inl, inr, LeavesSeat, length, Line, List, no_seat, refl, Seat, seat_at, set, subst, suc, sym, true}
+use Rattle.core_queues.proofs.Words.{ap, AreSeated, arith, cases_eq, cases_lt, false, get_or-set_other, get_or-set_same, HasPlace, HasSeat, inl, inr, LeavesSeat, length, Line, List, no_seat, refl, ParkedAt, seat_at, set, subst, suc, sym, true}
 use Rattle.core_queues.proofs.Words.{Vacates, zero, ℕ, ⊎_elim, ◌+◌, ◌<◌, ◌∙◌, ◌≡◌, ◌≤◌, ◌⊎◌}
 use Rattle.std.proofs.lemmas.List.{length-set}
 
@@ -8,7 +8,7 @@ false_true is = cc
 
 module _ (counts later : ℕ → ℕ) (keys now : ℕ → ℕ → ℕ) where
   -- where the parked jobs stay
-  pub AreSeated-same : (seats : List Seat) → ((queue : ℕ) → later queue ≡ counts queue) → ((queue place : ℕ) → place < counts queue → now queue place ≡ keys queue place) → AreSeated counts keys seats → AreSeated later now seats
+  pub AreSeated-same : (seats : List ParkedAt) → ((queue : ℕ) → later queue ≡ counts queue) → ((queue place : ℕ) → place < counts queue → now queue place ≡ keys queue place) → AreSeated counts keys seats → AreSeated later now seats
   AreSeated-same seats same stay seated = record {
     stands = λ queue place h.
         let within : place < counts queue = omega (arith, h, same queue) in
@@ -31,7 +31,7 @@ module _ (counts later : ℕ → ℕ) (keys now : ℕ → ℕ → ℕ) where
     pub last : now queue (counts queue) ≡ key
     pub fresh : (other place : ℕ) → place < counts other → keys other place ≡ key → ⊥
 
-  pub AreSeated-parked : (seats : List Seat) (queue key : ℕ) (seat : Seat) → ComesBehind queue key → key < length seats → seat.parked ≡ true → seat.queue ≡ queue → ((before : ℕ) → counts queue ≡ suc before → seat.before ≡ keys queue before)
+  pub AreSeated-parked : (seats : List ParkedAt) (queue key : ℕ) (seat : ParkedAt) → ComesBehind queue key → key < length seats → seat.parked ≡ true → seat.queue ≡ queue → ((before : ℕ) → counts queue ≡ suc before → seat.before ≡ keys queue before)
       → AreSeated counts keys seats → AreSeated later now (set seats key seat)
   AreSeated-parked seats queue key seat comes within marked here knows seated = record {
     stands = λ other place h. stands other place (old_or_new other place h (cases_eq other queue));
@@ -63,18 +63,18 @@ module _ (counts later : ℕ → ℕ) (keys now : ℕ → ℕ → ℕ) where
       stands other place (inl old) =
           let same = old_seat other place old in
           let was = seated.stands other place old in
-          (ap (λ (s : Seat). s.parked) same ∙ was.0, ap (λ (s : Seat). s.queue) same ∙ was.1)
+          (ap (λ (s : ParkedAt). s.parked) same ∙ was.0, ap (λ (s : ParkedAt). s.queue) same ∙ was.1)
       stands other place (inr new) =
           let same = new_seat (now other place) (new_key other place new.0 new.1) in
-          (ap (λ (s : Seat). s.parked) same ∙ marked, ap (λ (s : Seat). s.queue) same ∙ here ∙ sym new.0)
+          (ap (λ (s : ParkedAt). s.parked) same ∙ marked, ap (λ (s : ParkedAt). s.queue) same ∙ here ∙ sym new.0)
 
       behind : (other place : ℕ) → (suc place < counts other) ⊎ ((other ≡ queue) × (suc place ≡ counts queue)) → (seat_at (set seats key seat) (now other (suc place))).before ≡ now other place
       behind other place (inl old) =
           let before : place < counts other = omega (arith, old) in
-          ap (λ (s : Seat). s.before) (old_seat other (suc place) old) ∙ seated.behind other place old ∙ sym (comes.stays other place before)
+          ap (λ (s : ParkedAt). s.before) (old_seat other (suc place) old) ∙ seated.behind other place old ∙ sym (comes.stays other place before)
       behind other place (inr new) =
           let before : place < counts queue = omega (arith, new.1) in
-          ap (λ (s : Seat). s.before) (new_seat (now other (suc place)) (new_key other (suc place) new.0 new.1)) ∙ knows place (sym new.1)
+          ap (λ (s : ParkedAt). s.before) (new_seat (now other (suc place)) (new_key other (suc place) new.0 new.1)) ∙ knows place (sym new.1)
           ∙ sym (comes.stays queue place before) ∙ ap (λ n. now n place) (sym new.0)
 
       more : (other : ℕ) → (other ≡ queue) ⊎ (other ≡ queue → ⊥) → counts other ≤ later other
@@ -83,13 +83,13 @@ module _ (counts later : ℕ → ℕ) (keys now : ℕ → ℕ → ℕ) where
 
       only : (one : ℕ) → (seat_at (set seats key seat) one).parked ≡ true → (one ≡ key) ⊎ (one ≡ key → ⊥) → HasPlace later now (seat_at (set seats key seat) one).queue one
       only one is (inl same) =
-          let at = ap (λ (s : Seat). s.queue) (new_seat one same) ∙ here in
+          let at = ap (λ (s : ParkedAt). s.queue) (new_seat one same) ∙ here in
           subst (λ n. HasPlace later now n one) (sym at) (counts queue, omega (arith, comes.count), comes.last ∙ sym same)
       only one is (inr apart) =
           let same = beside one apart in
-          let there = seated.only one (sym (ap (λ (s : Seat). s.parked) same) ∙ is) in
+          let there = seated.only one (sym (ap (λ (s : ParkedAt). s.parked) same) ∙ is) in
           let other = (seat_at seats one).queue in
-          subst (λ (s : Seat). HasPlace later now s.queue one) (sym same) (there.0, omega (arith, there.1, more other (cases_eq other queue)), comes.stays other there.0 there.1 ∙ there.2)
+          subst (λ (s : ParkedAt). HasPlace later now s.queue one) (sym same) (there.0, omega (arith, there.1, more other (cases_eq other queue)), comes.stays other there.0 there.1 ∙ there.2)
 
   -- where a place of the parked jobs was before the one at an index of a queue left
   pub record WasPlaced (queue index other place : ℕ) : Type 0 where
@@ -106,7 +106,7 @@ module _ (counts later : ℕ → ℕ) (keys now : ℕ → ℕ → ℕ) where
     pub places : (other place : ℕ) → place < later other → WasPlaced queue index other place
     pub apart : (one here other there : ℕ) → here < counts one → there < counts other → keys one here ≡ keys other there → (one ≡ other) × (here ≡ there)
 
-  pub AreSeated-left : (seats new : List Seat) (queue index key next : ℕ) (line : Line) → LeavesPlace queue index → key ≡ keys queue index → LeavesSeat seats line key next new
+  pub AreSeated-left : (seats new : List ParkedAt) (queue index key next : ℕ) (line : Line) → LeavesPlace queue index → key ≡ keys queue index → LeavesSeat seats line key next new
       → (suc index ≡ counts queue → line.tail ≡ key) → (suc index < counts queue → (line.tail ≡ key → ⊥) × (next ≡ keys queue (suc index))) → AreSeated counts keys seats → AreSeated later now new
   AreSeated-left seats new queue index key next line leaves at gone last more seated = record {
     stands = λ other place h. stands other place (leaves.places other place h) (leaves.places other place h).moved;
@@ -189,7 +189,7 @@ module _ (counts later : ℕ → ℕ) (keys now : ℕ → ℕ → ℕ) where
           subst (λ n. HasPlace later now n one) (sym (gone.queue one apart)) (by_queue other there.0 one there.1 there.2 apart (cases_eq other queue))
 
   -- all parked jobs of a queue leave
-  pub AreSeated-vacated : (seats new : List Seat) (queue : ℕ) → later queue ≡ 0 → ((other : ℕ) → (other ≡ queue → ⊥) → later other ≡ counts other) → ((other place : ℕ) → (other ≡ queue → ⊥) → place < counts other → now other place ≡ keys other place)
+  pub AreSeated-vacated : (seats new : List ParkedAt) (queue : ℕ) → later queue ≡ 0 → ((other : ℕ) → (other ≡ queue → ⊥) → later other ≡ counts other) → ((other place : ℕ) → (other ≡ queue → ⊥) → place < counts other → now other place ≡ keys other place)
       → ((one here other there : ℕ) → here < counts one → there < counts other → keys one here ≡ keys other there → (one ≡ other) × (here ≡ there)) → Vacates (keys queue) (counts queue) seats new → AreSeated counts keys seats → AreSeated later now new
   AreSeated-vacated seats new queue none others stay apart gone seated = record {
     stands = λ other place h. stands other place h (cases_eq other queue);
@@ -204,14 +204,14 @@ module _ (counts later : ℕ → ℕ) (keys now : ℕ → ℕ → ℕ) where
       stands other place h (inl same) = absurd (omega (arith, h, ap later same, none))
       stands other place h (inr differs) =
           let within : place < counts other = omega (arith, h, others other differs) in
-          subst (λ k. HasSeat new k other) (sym (stay other place differs within)) (subst (λ (s : Seat). (s.parked ≡ true) × (s.queue ≡ other)) (sym (same_seat other place differs within)) (seated.stands other place within))
+          subst (λ k. HasSeat new k other) (sym (stay other place differs within)) (subst (λ (s : ParkedAt). (s.parked ≡ true) × (s.queue ≡ other)) (sym (same_seat other place differs within)) (seated.stands other place within))
 
       behind : (other place : ℕ) → suc place < later other → (other ≡ queue) ⊎ (other ≡ queue → ⊥) → (seat_at new (now other (suc place))).before ≡ now other place
       behind other place h (inl same) = absurd (omega (arith, h, ap later same, none))
       behind other place h (inr differs) =
           let within : suc place < counts other = omega (arith, h, others other differs) in
           let before : place < counts other = omega (arith, within) in
-          ap (λ k. (seat_at new k).before) (stay other (suc place) differs within) ∙ ap (λ (s : Seat). s.before) (same_seat other (suc place) differs within) ∙ seated.behind other place within ∙ sym (stay other place differs before)
+          ap (λ k. (seat_at new k).before) (stay other (suc place) differs within) ∙ ap (λ (s : ParkedAt). s.before) (same_seat other (suc place) differs within) ∙ seated.behind other place within ∙ sym (stay other place differs before)
 
       by_queue : (one other place : ℕ) → place < counts other → keys other place ≡ one → (seat_at new one).parked ≡ true → (other ≡ queue) ⊎ (other ≡ queue → ⊥) → HasPlace later now other one
       by_queue one other place within is parked (inl same) =
@@ -221,7 +221,7 @@ module _ (counts later : ℕ → ℕ) (keys now : ℕ → ℕ → ℕ) where
 
       only : (one : ℕ) → (seat_at new one).parked ≡ true → (seat_at new one ≡ seat_at seats one) ⊎ ((seat_at new one).parked ≡ false) → HasPlace later now (seat_at new one).queue one
       only one is (inl same) =
-          let there = seated.only one (sym (ap (λ (s : Seat). s.parked) same) ∙ is) in
+          let there = seated.only one (sym (ap (λ (s : ParkedAt). s.parked) same) ∙ is) in
           let other = (seat_at seats one).queue in
-          subst (λ (s : Seat). HasPlace later now s.queue one) (sym same) (by_queue one other there.0 there.1 there.2 is (cases_eq other queue))
+          subst (λ (s : ParkedAt). HasPlace later now s.queue one) (sym same) (by_queue one other there.0 there.1 there.2 is (cases_eq other queue))
       only one is (inr none_now) = absurd (false_true (sym none_now ∙ is))

@@ -1,6 +1,6 @@
 -- What a wake does: a parked job that was found comes to the line of its queue, and of one that waits the wake is kept.
 use Rattle.core_queues.proofs.Words.{ap, Appends, AreAtRest, AreFound, arith, awake, Bool, cases_lt, ChangesLine, false, get, get_or_past, held_count, inl, inr, is_some, IsAtRest, IsKept, JobId, KeepsWake, KeepsWakeOf, key_at, LeavesSeat}
-use Rattle.core_queues.proofs.Words.{length, Line, line_at, List, map, map-append, MovesOut, name_at, Names, no_queue, parked_counts, parked_keys, Queue, queue_at, QueuesView, refl, Seat, seat_at, set, shown, shown_parked, Slab, slab_len}
+use Rattle.core_queues.proofs.Words.{length, Line, line_at, List, map, map-append, MovesOut, name_at, Names, no_queue, parked_counts, parked_keys, Queue, queue_at, QueuesView, refl, ParkedAt, seat_at, set, shown, shown_parked, Slab, slab_len}
 use Rattle.core_queues.proofs.Words.{Some, subst, suc, sym, true, Waiting, waiting_of, WakesParked, ℕ, [], ◌++◌, ◌+◌, ◌-◌, ◌<◌, ◌∙◌, ◌∷◌, ◌≡◌, ◌≤◌, ◌⊎◌}
 use Rattle.core_queues.specs.View.{Line as Says, Parks as Parked}
 use Rattle.core_queues.specs.Parks.{ChangesParks}
@@ -32,7 +32,7 @@ module _ {J : Type 0} where
 
 module _ {J : Type 0} {old new : Slab (Waiting J)} {queues : List Queue} where
   -- and the same name
-  pub AreFound-woken : (names : Names) (seats : List Seat) (key : ℕ) → KeepsWakeOf old key new → AreFound old queues names seats → AreFound new queues names seats
+  pub AreFound-woken : (names : Names) (seats : List ParkedAt) (key : ℕ) → KeepsWakeOf old key new → AreFound old queues names seats → AreFound new queues names seats
   AreFound-woken names seats key keeps found =
       let rewrites = Rewrites-wake old new key keeps in
       AreFound-same old new queues queues names seats (SameParks-renewed key keeps.waiting (record keeps.waiting { woken = true }) rewrites) (SameNames-written old new key keeps.waiting (record keeps.waiting { woken = true }) keeps.at keeps.updates refl) keeps.capacity found
@@ -105,7 +105,7 @@ module _ {J : Type 0} {room line_places : ℕ} {old new : Slab (Waiting J)} {que
       }
 
 -- what a parked job that was woken comes to
-pub record WokenFrom {J : Type 0} (room line_places : ℕ) (old new : Slab (Waiting J)) (queues : List Queue) (names : Names) (told : List Seat) (name : JobId) (queue : ℕ) (after : List Queue) : Type 0 where
+pub record WokenFrom {J : Type 0} (room line_places : ℕ) (old new : Slab (Waiting J)) (queues : List Queue) (names : Names) (told : List ParkedAt) (name : JobId) (queue : ℕ) (after : List Queue) : Type 0 where
   pub kept : IsKept room line_places new after
   pub rests : AreAtRest new after
   pub found : AreFound new after names told
@@ -113,7 +113,7 @@ pub record WokenFrom {J : Type 0} (room line_places : ℕ) (old new : Slab (Wait
 
 module _ {J : Type 0} {room line_places : ℕ} {old new : Slab (Waiting J)} {queues : List Queue} where
   -- a parked job that was found goes to the tail of its queue
-  pub woken_from : (names : Names) (seats told : List Seat) (queue : ℕ) (at : Found) (name : JobId) (next : ℕ) (shorter longer : Line) → IsKept room line_places old queues → queue < length queues → FindsAt old (line_at queues (parks queue)) name at
+  pub woken_from : (names : Names) (seats told : List ParkedAt) (queue : ℕ) (at : Found) (name : JobId) (next : ℕ) (shorter longer : Line) → IsKept room line_places old queues → queue < length queues → FindsAt old (line_at queues (parks queue)) name at
       → MovesOut old (line_at queues (parks queue)) at.key at.before (line_at queues (waits queue)) new next shorter longer → LeavesSeat seats (line_at queues (parks queue)) at.key next told → AreAtRest old queues → AreFound old queues names seats
       → WokenFrom room line_places old new queues names told name queue (set queues queue (record (queue_at queues queue) { waiting = longer; parked = shorter }))
   woken_from names seats told queue at name next shorter longer kept within finds moves leaves rests found =
@@ -150,7 +150,7 @@ module _ {J : Type 0} {room line_places : ℕ} {old new : Slab (Waiting J)} {que
 
 module _ {J : Type 0} {room line_places : ℕ} {old : Slab (Waiting J)} {queues : List Queue} where
   -- where a parked job of this name stands
-  pub finds_parked : (names : Names) (seats : List Seat) (name : JobId) (key : ℕ) → IsKept room line_places old queues → AreFound old queues names seats → name_at names key ≡ Some name → (seat_at seats key).parked ≡ true
+  pub finds_parked : (names : Names) (seats : List ParkedAt) (name : JobId) (key : ℕ) → IsKept room line_places old queues → AreFound old queues names seats → name_at names key ≡ Some name → (seat_at seats key).parked ≡ true
       → (index : ℕ) × ((seat_at seats key).queue < length queues) × FindsAt old (line_at queues (parks (seat_at seats key).queue)) name (record { key = key; index = index; before = (seat_at seats key).before })
   finds_parked names seats name key kept found is parked =
       let queue = (seat_at seats key).queue in
@@ -177,7 +177,7 @@ module _ {J : Type 0} {room line_places : ℕ} {old : Slab (Waiting J)} {queues 
       by_size (inr past) {place} some = let none : (line_at queues (parks (seat_at seats key).queue)).count ≡ 0 = ap (λ (q : Queue). q.parked.count) (get_or_past queues (seat_at seats key).queue no_queue past) in absurd (omega (arith, some, none))
 
   -- where a job of this name stands that isn't parked
-  pub finds_waiting : (names : Names) (seats : List Seat) (name : JobId) (key : ℕ) → IsKept room line_places old queues → AreFound old queues names seats → name_at names key ≡ Some name → (seat_at seats key).parked ≡ false
+  pub finds_waiting : (names : Names) (seats : List ParkedAt) (name : JobId) (key : ℕ) → IsKept room line_places old queues → AreFound old queues names seats → name_at names key ≡ Some name → (seat_at seats key).parked ≡ false
       → (queue : ℕ) × (index : ℕ) × (before : ℕ) × FindsAt old (line_at queues (waits queue)) name (record { key = key; index = index; before = before })
   finds_waiting names seats name key kept found is asleep =
       let entry = entry_of old names name key found.named is in
@@ -208,7 +208,7 @@ module _ {J : Type 0} {room line_places : ℕ} {old : Slab (Waiting J)} {queues 
       by_spot waiting there named stands = by_side waiting there named stands.spot.queue stands.place stands.spot.is_parked stands.within stands.at
 
   -- the same of what its seat told
-  pub finds_seat : (names : Names) (seats : List Seat) (name : JobId) (key queue before : ℕ) → IsKept room line_places old queues → AreFound old queues names seats → name_at names key ≡ Some name
+  pub finds_seat : (names : Names) (seats : List ParkedAt) (name : JobId) (key queue before : ℕ) → IsKept room line_places old queues → AreFound old queues names seats → name_at names key ≡ Some name
       → ((seat_at seats key).parked ≡ true) × ((seat_at seats key).queue ≡ queue) × ((seat_at seats key).before ≡ before)
       → (index : ℕ) × (queue < length queues) × FindsAt old (line_at queues (parks queue)) name (record { key = key; index = index; before = before })
   finds_seat names seats name key queue before kept found is told =

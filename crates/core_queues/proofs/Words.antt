@@ -20,7 +20,7 @@ pub use Rattle.core_queues.specs.View.{awake, held_count, held_in, IsWithinLimit
 pub use Rattle.core_queues.specs.Waking.{HoldsNone, KeepsWake, WakesParked}
 pub use Rattle.core_queues.specs.declared.line.Line.{Line}
 pub use Rattle.core_queues.specs.declared.line.Queue.{Queue}
-pub use Rattle.core_queues.specs.declared.seats.Seat.{Seat}
+pub use Rattle.core_queues.specs.declared.seats.ParkedAt.{ParkedAt}
 pub use Rattle.core_queues.specs.declared.waiting.Waiting.{Waiting}
 pub use Rattle.slab.proofs.SlabLemmas.{ContainsKey-within, Updates-set, Updates-with_value}
 pub use Rattle.slab.specs.Slab.{ContainsKey, get, Slab, slab_len, Updates}

@@ -6,7 +6,7 @@ ghost use Rattle.base_words.specs.Limits.{most_queues};
 
 use crate::closing::closes;
 use crate::line::{Line, Queue};
-use crate::seats::{Seat, open_seats};
+use crate::seats::{ParkedAt, open_seats};
 use crate::slips::Slips;
 use crate::waiting::{Waiting, append};
 use base_sealed::{SealedSlab, SealedVec};
@@ -46,7 +46,7 @@ pub struct Queues<J, A: Allocator> {
     // From a name to the key of its job.
     names: Index<A>,
     // For each key where its job is parked, if it is.
-    seats: SealedVec<Seat, A>,
+    seats: SealedVec<ParkedAt, A>,
 }
 
 // The index takes fewer keys than this.

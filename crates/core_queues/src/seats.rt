@@ -13,7 +13,7 @@ use std::alloc::{AllocError, Allocator};
 
 /// The seat of a key: the queue in which its job is parked, if it is.
 #[derive(Clone, Copy)]
-pub struct Seat {
+pub struct ParkedAt {
     /// The key of the one parked right before it. At the head of the line it says nothing.
     pub before: usize,
     /// Its queue.
@@ -22,9 +22,9 @@ pub struct Seat {
     pub parked: bool,
 }
 
-impl Seat {
+impl ParkedAt {
     /// The seat of a key that no parked job has.
-    pub const VACANT: Seat = Seat {
+    pub const VACANT: ParkedAt = ParkedAt {
         before: 0,
         queue: QueueNo(0),
         parked: false,
@@ -42,7 +42,7 @@ pub enum Stands {
 
 /// Reads the seat of this key.
 #[inline(always)]
-pub fn read_seat<A: Allocator>(seats: &SealedVec<Seat, A>, key: usize) -> Stands
+pub fn read_seat<A: Allocator>(seats: &SealedVec<ParkedAt, A>, key: usize) -> Stands
     requires { key < length seats.now.items }
     ensures { Tells (seat_at seats.now.items key) result }
 {
@@ -54,17 +54,20 @@ pub fn read_seat<A: Allocator>(seats: &SealedVec<Seat, A>, key: usize) -> Stands
 }
 
 /// Takes the memory for the seats of so many keys, from 0 on. All are vacant.
-pub fn open_seats<A: Allocator>(alloc: A, places: usize) -> Result<SealedVec<Seat, A>, AllocError>
+pub fn open_seats<A: Allocator>(
+    alloc: A,
+    places: usize,
+) -> Result<SealedVec<ParkedAt, A>, AllocError>
     ensures { IfOk result (λ seats. seats.items ≡ replicate places no_seat) }
 {
     let mut seats = Vec::with_capacity(alloc, places)?;
-    seats.resize(places, Seat::VACANT)?;
+    seats.resize(places, ParkedAt::VACANT)?;
     Ok(SealedVec::sealed(seats))
 }
 
 /// The job under this key leaves the line of parked ones. The one behind it, which has the next key, is told the key before it.
 #[inline(always)]
-pub fn leave<A: Allocator>(seats: &mut SealedVec<Seat, A>, line: Line, key: usize, next: usize)
+pub fn leave<A: Allocator>(seats: &mut SealedVec<ParkedAt, A>, line: Line, key: usize, next: usize)
     requires within { key < length seats.old.items }
     requires behind { (line.tail ≡ key → ⊥) → next < length seats.old.items }
     ensures { LeavesSeat seats.old.items line key next seats.new.items }
@@ -80,7 +83,7 @@ pub fn leave<A: Allocator>(seats: &mut SealedVec<Seat, A>, line: Line, key: usiz
 /// All jobs of a line of parked ones leave it.
 pub fn vacate<J, A: Allocator>(
     jobs: &SealedSlab<Waiting<J>, A>,
-    seats: &mut SealedVec<Seat, A>,
+    seats: &mut SealedVec<ParkedAt, A>,
     line: Line,
 )
     requires chain { IsChain jobs.now line }

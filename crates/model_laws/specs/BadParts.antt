@@ -7,7 +7,7 @@ use Rattle.base_words.specs.Keys.{KeyBefore}
 use Rattle.core_index.specs.declared.row.Row.{Row}
 use Rattle.core_index.specs.Buckets.{HoldsAll, HoldsTaken, Precedes, no_bucket, no_row}
 use Rattle.core_queues.specs.declared.line.Line.{Line}
-use Rattle.core_queues.specs.declared.seats.Seat.{Seat}
+use Rattle.core_queues.specs.declared.seats.ParkedAt.{ParkedAt}
 use Rattle.core_queues.specs.Seats.{LeavesSeat, Vacates}
 use Rattle.core_timeline.specs.Rising.{HasDistinctQueues, IsRising, first_key, has_queue, inserted, removed}
 
@@ -62,12 +62,12 @@ lost_key holds = omega (arith, holds 0 refl)
 pub none_before : (rows : List Row) → Precedes rows 0 0 1 2 → ⊥
 none_before rows before = before
 
-abbrev pub sits : Seat
+abbrev pub sits : ParkedAt
 sits = record { before = 0; queue = 0; parked = true }
 
 -- the seat that a job leaves is still taken
-pub still_sits : (old : List Seat) (line : Line) → LeavesSeat old line 0 1 (sits ∷ []) → ⊥
+pub still_sits : (old : List ParkedAt) (line : Line) → LeavesSeat old line 0 1 (sits ∷ []) → ⊥
 still_sits old line leaves = let gone : true ≡ false = leaves.gone in cc
 
-pub all_still_sit : (old : List Seat) → Vacates (λ place. place) 1 old (sits ∷ []) → ⊥
+pub all_still_sit : (old : List ParkedAt) → Vacates (λ place. place) 1 old (sits ∷ []) → ⊥
 all_still_sit old vacates = let vacant : true ≡ false = vacates.vacant 0 (omega arith) in cc

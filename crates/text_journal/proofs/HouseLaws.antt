@@ -14,7 +14,7 @@ use Rattle.base_words.specs.Terms.{Terms}
 use Rattle.base_words.specs.declared.note.Note.{Note}
 use Rattle.text_journal.specs.declared.part.PartCause.{PartCause}
 use Rattle.text_journal.specs.declared.part.PartCause.TheVariants as part
-use Rattle.text_journal.specs.declared.parts.House.{House}
+use Rattle.text_journal.specs.declared.parts.HouseNumbers.{HouseNumbers}
 use Rattle.text_journal.specs.declared.parts.PartsCause.{PartsCause}
 use Rattle.text_journal.specs.declared.parts.PartsCause.TheVariants as cause
 use Rattle.text_journal.specs.HouseLaws.{parts_bytes, TellNotes, TellJournals, HaveHeads, house_of, JournalsAreReadBack, FaultyAreNoJournals}
@@ -221,10 +221,10 @@ excluded (part ∷ one) (other ∷ two) draft made whole bytes rest why makes wr
 house_excluded : (bytes rest : List ℕ) (why : PartsCause) (made whole : Drafted) → MakeHouse bytes made rest → IsWrong why made rest → MakeHouse bytes whole [] → ⊥
 house_excluded bytes rest why made whole one wrong two =
     let both = some_is (two.house, two.behind) (one.house, one.behind) (sym two.numbers ∙ one.numbers) in
-    let same = ap (λ (p : House × List ℕ). p.0) both in
-    let behind = ap (λ (p : House × List ℕ). p.1) both in
+    let same = ap (λ (p : HouseNumbers × List ℕ). p.0) both in
+    let behind = ap (λ (p : HouseNumbers × List ℕ). p.1) both in
     excluded one.parts two.parts (house_draft one.house) made whole one.behind rest why one.made wrong
-    (subst (λ (h : House). MakeDraft two.parts (house_draft h) one.behind whole []) same (subst (λ (b : List ℕ). MakeDraft two.parts (house_draft two.house) b whole []) behind two.made))
+    (subst (λ (h : HouseNumbers). MakeDraft two.parts (house_draft h) one.behind whole []) same (subst (λ (b : List ℕ). MakeDraft two.parts (house_draft two.house) b whole []) behind two.made))
 
 abbrev IsFaultBehind : List ℕ → ℕ → PartsCause → Type 0
 IsFaultBehind bytes place why = (draft : Drafted) × (rest : List ℕ) × MakeHouse bytes draft rest × (place + length rest ≡ length bytes) × IsWrong why draft rest

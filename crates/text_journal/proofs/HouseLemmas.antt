@@ -9,7 +9,7 @@ use Rattle.std.proofs.lemmas.List.Elements.{All-head, All-tail}
 use Rattle.base_words.specs.Assembly.{Assembly}
 use Rattle.base_words.specs.Spelled.{IsSpelled, IsSpelledNote}
 use Rattle.base_words.specs.declared.note.Note.{Note}
-use Rattle.text_journal.specs.declared.parts.House.{House}
+use Rattle.text_journal.specs.declared.parts.HouseNumbers.{HouseNumbers}
 use Rattle.text_journal.specs.Handed.{Handed, IsBegun, assembly_handed, handed_on}
 use Rattle.text_journal.specs.Houses.{house_mark, house_bytes, house_with, house_at, house_draft, with_notes, with_part, IsHouse, IsNext, MakeDraft, MakeHouse, AreJournals, MakesParts}
 use Rattle.text_journal.specs.NoteBytes.{short}
@@ -25,7 +25,7 @@ use Rattle.text_journal.proofs.SoFar.{terms_at, IsFair, raised_fair, noted_fair}
 
 -- ---- the numbers
 
-numbers_bytes : House → List ℕ
+numbers_bytes : HouseNumbers → List ℕ
 numbers_bytes house = house.cores ∷ house.burst ∷ short house.cap
 
 numbers_taken : IsTaken numbers_bytes (both house_with byte_at (both pair byte_at short_at))
@@ -55,7 +55,7 @@ house_taken bytes x fits e =
       rest_fits = t.rest_fits;
     }
 
-pub house_again : (house : House) (rest : List ℕ) → IsHouse house → house_at (house_bytes house ++ rest) ≡ Some (house, rest)
+pub house_again : (house : HouseNumbers) (rest : List ℕ) → IsHouse house → house_at (house_bytes house ++ rest) ≡ Some (house, rest)
 unfolding house_at
 house_again house rest limits =
     let few = limits.few_places in
@@ -67,7 +67,7 @@ house_again house rest limits =
     ∙ both_again house_with byte_at (both pair byte_at short_at) (house.cores ∷ behind) house.cores behind (house.burst, house.cap) rest refl
     (both_again pair byte_at short_at behind house.burst (short house.cap ++ rest) house.cap rest refl (short_again house.cap rest (omega (arith, few))))
 
-pub numbers_short : (bytes rest : List ℕ) (house : House) → IsBytes bytes → house_at bytes ≡ Some (house, rest) → length rest ≤ length bytes
+pub numbers_short : (bytes rest : List ℕ) (house : HouseNumbers) → IsBytes bytes → house_at bytes ≡ Some (house, rest) → length rest ≤ length bytes
 numbers_short bytes rest house fits e =
     let t = house_taken bytes (house, rest) fits e in
     omega (arith, ap length t.parts, length-append (house_bytes house) rest)

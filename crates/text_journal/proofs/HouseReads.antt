@@ -4,7 +4,7 @@ use Rattle.std.proofs.lemmas.List.{drop_at, length-append, length-reverse, rever
 use Rattle.std.proofs.lemmas.List.Concat.{flat_map-cons}
 use Rattle.base_words.specs.Journal.{Journal}
 use Rattle.base_words.specs.declared.note.Note.{Note}
-use Rattle.text_journal.specs.declared.parts.House.{House}
+use Rattle.text_journal.specs.declared.parts.HouseNumbers.{HouseNumbers}
 use Rattle.text_journal.specs.HouseLaws.{parts_bytes, TellNotes, TellJournals, house_of, OnlyJournalsAreRead}
 use Rattle.text_journal.specs.Houses.{house_bytes, house_draft, with_notes, with_part, IsNext, MakeDraft}
 use Rattle.text_journal.specs.Parts.{PartView, part_bytes}
@@ -36,7 +36,7 @@ same_house (part ∷ parts) draft made bytes rest makes =
     let more = same_house parts (with_part part draft) made makes.0 rest makes.3 in
     (more.0 ∙ kept.cores, more.1 ∙ kept.cap, more.2 ∙ kept.burst)
 
-house_is : (house : House) (cores places burst : ℕ) → house.cores ≡ cores → house.cap ≡ places → house.burst ≡ burst → house ≡ record { cores = cores; cap = places; burst = burst }
+house_is : (house : HouseNumbers) (cores places burst : ℕ) → house.cores ≡ cores → house.cap ≡ places → house.burst ≡ burst → house ≡ record { cores = cores; cap = places; burst = burst }
 house_is house cores places burst cores_are caps_are bursts_are = λ i. record { cores = cores_are i; cap = caps_are i; burst = bursts_are i }
 
 -- ---- the parts tell the journals
@@ -118,6 +118,6 @@ only_read bytes assembly all (draft, makes, is) =
     let passed = tell_raised (draft.cores - length draft.earlier) draft makes.parts tell in (
       journals_spelled bytes assembly (draft, makes, is),
       makes.parts,
-      numbers.parts ∙ ap (λ (h : House). house_bytes h ++ makes.behind) mine ∙ ap (λ (x : List ℕ). house_bytes (house_of assembly) ++ x) (parts ∙ append-nil (parts_bytes makes.parts)),
+      numbers.parts ∙ ap (λ (h : HouseNumbers). house_bytes h ++ makes.behind) mine ∙ ap (λ (x : List ℕ). house_bytes (house_of assembly) ++ x) (parts ∙ append-nil (parts_bytes makes.parts)),
       subst (λ (js : List (Journal ℕ)). TellJournals 0 js makes.parts) (sym (ap (λ a. a.journals) is)) (tell_all (raised_to draft.cores draft) makes.parts passed),
     )

@@ -8,7 +8,7 @@ use Rattle.base_words.specs.declared.note.Note.TheVariants.{CoreClosed}
 use Rattle.base_words.specs.declared.order.Mode.TheVariants.{Finish, Return}
 use Rattle.text_journal.specs.BadHouses.{BadHousesAreRefused, one_core, later, outside}
 use Rattle.text_journal.specs.BadParts.{closing, two_closes}
-use Rattle.text_journal.specs.declared.parts.House.{House}
+use Rattle.text_journal.specs.declared.parts.HouseNumbers.{HouseNumbers}
 use Rattle.text_journal.proofs.ByteFields.{some_is}
 use Rattle.text_journal.specs.Houses.{Fits, house_at, house_draft, with_part, IsHouse, IsNext}
 use Rattle.text_journal.specs.NoteBytes.{short, wide}
@@ -36,7 +36,7 @@ refused = record {
     refl,
     λ house rest read limits.
         let some = limits.some_core in
-        let none : 0 ≡ house.cores = ap (λ (p : House × List ℕ). p.0.cores) (some_is (record { cores = 0; cap = 4; burst = 1 }, []) (house, rest) read) in
+        let none : 0 ≡ house.cores = ap (λ (p : HouseNumbers × List ℕ). p.0.cores) (some_is (record { cores = 0; cap = 4; burst = 1 }, []) (house, rest) read) in
         absurd (omega (arith, none, some)),
   );
   other_version = (refl, λ house rest read limits. cc);

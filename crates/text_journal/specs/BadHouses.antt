@@ -1,14 +1,14 @@
 -- Small cases of bytes that are no journals of a house.
 use Rattle.std.specs.Prelude.{ℕ, List, [], ◌∷◌, ◌++◌, codes, take, drop}
 use Rattle.text_journal.specs.declared.part.PartCause.TheVariants as why
-use Rattle.text_journal.specs.declared.parts.House.{House}
+use Rattle.text_journal.specs.declared.parts.HouseNumbers.{HouseNumbers}
 use Rattle.text_journal.specs.declared.parts.PartsCause.TheVariants as cause
 use Rattle.text_journal.specs.BadParts.{closing, two_closes}
 use Rattle.text_journal.specs.HouseLaws.{parts_bytes}
 use Rattle.text_journal.specs.Houses.{IsFault, house_bytes}
 use Rattle.text_journal.specs.Parts.{PartView}
 
-abbrev pub one_core : House
+abbrev pub one_core : HouseNumbers
 one_core = record { cores = 1; cap = 4; burst = 1 }
 
 -- these parts behind the numbers of a house of one core

@@ -5,7 +5,7 @@ use Rattle.base_words.specs.declared.note.Note.{Note}
 use Rattle.base_words.specs.Assembly.{Assembly}
 use Rattle.base_words.specs.Journal.{Journal}
 use Rattle.base_words.specs.Spelled.{IsSpelled}
-use Rattle.text_journal.specs.declared.parts.House.{House}
+use Rattle.text_journal.specs.declared.parts.HouseNumbers.{HouseNumbers}
 use Rattle.text_journal.specs.declared.parts.PartsCause.{PartsCause}
 use Rattle.text_journal.specs.Houses.{AreJournals, IsFault, house_bytes}
 use Rattle.text_journal.specs.PartLaws.{AreBytes, HasHead}
@@ -31,7 +31,7 @@ TellJournals actor (journal ∷ journals) parts =
 abbrev pub HaveHeads : List PartView → Type 0
 HaveHeads parts = AllByRecursion (λ part. HasHead (head_of part)) parts
 
-abbrev pub house_of : Assembly ℕ → House
+abbrev pub house_of : Assembly ℕ → HouseNumbers
 house_of assembly = record { cores = assembly.cores; cap = assembly.cap; burst = assembly.burst }
 
 -- the numbers of a house and parts that tell its journals, wherever these are cut, are read as these journals

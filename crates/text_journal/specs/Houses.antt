@@ -7,7 +7,7 @@ use Rattle.base_words.specs.Limits.{most_notes}
 use Rattle.base_words.specs.Spelled.{IsSpelled, IsSpelledNote, IsWithinLimits}
 use Rattle.base_words.specs.Terms.{Terms}
 use Rattle.text_journal.specs.declared.draft.Part.TheVariants as part
-use Rattle.text_journal.specs.declared.parts.House.{House}
+use Rattle.text_journal.specs.declared.parts.HouseNumbers.{HouseNumbers}
 use Rattle.text_journal.specs.declared.parts.PartsCause.{PartsCause}
 use Rattle.text_journal.specs.declared.parts.PartsCause.TheVariants as cause
 use Rattle.text_journal.specs.declared.parts.PartsError.{PartsError}
@@ -23,25 +23,25 @@ abbrev pub house_mark : List ℕ
 house_mark = codes "fxh1"
 
 -- how many cores there are, how many polls a turn may have, and how much each link may hold
-abbrev pub house_bytes : House → List ℕ
+abbrev pub house_bytes : HouseNumbers → List ℕ
 house_bytes house = house_mark ++ (house.cores ∷ house.burst ∷ short house.cap)
 
-abbrev pub house_with : ℕ → ℕ × ℕ → House
+abbrev pub house_with : ℕ → ℕ × ℕ → HouseNumbers
 house_with cores others = record { cores = cores; cap = others.1; burst = others.0 }
 
-abbrev pub numbers_at : Reader House
+abbrev pub numbers_at : Reader HouseNumbers
 numbers_at = both house_with byte_at (both pair byte_at short_at)
 
-unfoldable pub house_at : Reader House
+unfoldable pub house_at : Reader HouseNumbers
 house_at bytes =
     if nat_lt (length bytes) 4 then None
     else (if bytes_eq (take 4 bytes) house_mark then numbers_at (drop 4 bytes) else None)
 
-abbrev pub IsHouse : House → Type 0
+abbrev pub IsHouse : HouseNumbers → Type 0
 IsHouse house = IsWithinLimits house.cores house.cap house.burst
 
 -- no note is there yet
-abbrev pub house_draft : House → Drafted
+abbrev pub house_draft : HouseNumbers → Drafted
 house_draft house = record { part = part.Notes; cores = house.cores; cap = house.cap; burst = house.burst; earlier = []; notes = [] }
 
 -- notes come behind the others of their actor
@@ -90,7 +90,7 @@ MakeDraft (part ∷ parts) draft bytes made rest =
 
 -- bytes begin with the numbers of a house, and parts behind them make this draft; these bytes are left
 pub record MakeHouse (bytes : List ℕ) (draft : Drafted) (rest : List ℕ) : Type 0 where
-  pub house : House
+  pub house : HouseNumbers
   pub behind : List ℕ
   pub numbers : house_at bytes ≡ Some (house, behind)
   pub limits : IsHouse house
@@ -112,7 +112,7 @@ IsWrong why draft bytes = (part : PartView) × (rest : List ℕ) × (part_at byt
 
 -- bytes begin with no numbers of a house; or those before the place are taken, and this is wrong with what stands there
 abbrev pub IsFault : List ℕ → ℕ → PartsCause → Type 0
-IsFault bytes place cause.House = (place ≡ 0) × ((house : House) (rest : List ℕ) → house_at bytes ≡ Some (house, rest) → IsHouse house → ⊥)
+IsFault bytes place cause.House = (place ≡ 0) × ((house : HouseNumbers) (rest : List ℕ) → house_at bytes ≡ Some (house, rest) → IsHouse house → ⊥)
 IsFault bytes place why = (draft : Drafted) × (rest : List ℕ) × MakeHouse bytes draft rest × (place + length rest ≡ length bytes) × IsWrong why draft rest
 
 -- a fact of a fault: its place, and the cause

@@ -13,7 +13,7 @@ ghost use Rattle.text_bytes.specs.Faults.{IfCause};
 use crate::fault::JournalCause;
 use crate::field::number_in;
 use crate::note::note_of;
-use crate::parts::House;
+use crate::parts::HouseNumbers;
 use crate::phrase::last;
 use crate::taker::NoteTaker;
 use base_sealed::History;
@@ -99,7 +99,7 @@ impl<T: NoteTaker> Draft<T> {
     }
 
     /// Behind the numbers of a house, with no note.
-    pub(crate) fn begun(taker: T, house: House) -> Result<Draft<T>, Stop<JournalCause>>
+    pub(crate) fn begun(taker: T, house: HouseNumbers) -> Result<Draft<T>, Stop<JournalCause>>
         requires has { T.has taker nothing_handed }
         requires some { 1 ≤ house.cores }
         requires few { house.cores ≤ most_cores }

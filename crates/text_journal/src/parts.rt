@@ -26,7 +26,7 @@ use text_words::field::is_word;
 
 /// The numbers of a house: how many cores there are, how much each link may hold, and how many polls a turn may have.
 #[derive(Clone, Copy)]
-pub struct House {
+pub struct HouseNumbers {
     pub cores: u8,
     pub cap: u16,
     pub burst: u8,
@@ -100,7 +100,7 @@ pub fn pass_parts<T: NoteTaker>(
 /// # Errors
 ///
 /// There is no memory for them.
-pub fn put_house(house: House, out: &mut Vec<u8>) -> Result<(), AllocError>
+pub fn put_house(house: HouseNumbers, out: &mut Vec<u8>) -> Result<(), AllocError>
     ensures { OnOk result (out.new.items ≡ out.old.items ++ spec.house_bytes house) }
 {
     out.extend_from_slice(b"fxh1")?;
@@ -110,7 +110,7 @@ pub fn put_house(house: House, out: &mut Vec<u8>) -> Result<(), AllocError>
 
 /// The numbers at the front, and the bytes behind them.
 #[tactic(auto, unfolding(crate::specs::Houses::house_at))]
-fn house_at(bytes: &[u8]) -> Option<(House, &[u8])>
+fn house_at(bytes: &[u8]) -> Option<(HouseNumbers, &[u8])>
     ensures { Gives (λ x. (x.0, x.1.now)) result (spec.house_at bytes.now) }
 {
     if bytes.len() < 4 {
@@ -122,17 +122,17 @@ fn house_at(bytes: &[u8]) -> Option<(House, &[u8])>
     numbers_at(&bytes[4..])
 }
 
-fn numbers_at(bytes: &[u8]) -> Option<(House, &[u8])>
+fn numbers_at(bytes: &[u8]) -> Option<(HouseNumbers, &[u8])>
     ensures { Gives (λ x. (x.0, x.1.now)) result (spec.numbers_at bytes.now) }
 {
     let (cores, rest) = byte_at(bytes)?;
     let (burst, rest) = byte_at(rest)?;
     let (cap, rest) = short_at(rest)?;
-    Some((House { cores, cap, burst }, rest))
+    Some((HouseNumbers { cores, cap, burst }, rest))
 }
 
 /// Whether the numbers are within their limits.
-fn is_house(house: House) -> bool
+fn is_house(house: HouseNumbers) -> bool
     ensures { IsTrue result ↔ spec.IsHouse house }
 {
     house.cores >= 1
@@ -144,7 +144,7 @@ fn is_house(house: House) -> bool
 }
 
 /// The numbers of the house whose journals these are, and the bytes behind them.
-fn house_in(bytes: &[u8]) -> Result<(House, &[u8]), PartsError>
+fn house_in(bytes: &[u8]) -> Result<(HouseNumbers, &[u8]), PartsError>
     ensures ok { IfOk result (λ x. (spec.house_at bytes.now ≡ Some (x.0, x.1.now)) × spec.IsHouse x.0) }
     ensures short { IfOk result (λ x. length x.1.now ≤ length bytes.now) }
     ensures faulty { IfErr result (spec.IfFaulty (spec.IsFault bytes.now)) }

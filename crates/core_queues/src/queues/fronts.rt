@@ -6,7 +6,7 @@ ghost use Rattle.core_queues.specs.Fronts.{HasFront, IsFrontReady, MakesCalls, P
 use super::Queues;
 use crate::line::Queue;
 use crate::meter::Meter;
-use crate::seats::Seat;
+use crate::seats::ParkedAt;
 use crate::waiting::{move_head, poll_at, requeue};
 use base_jobs::{Job, Post, Step};
 use base_words::{JobId, QueueNo};
@@ -65,7 +65,7 @@ impl<J: Drop, A: Allocator + Clone> Queues<J, A> {
             shares: was.shares,
             mode: was.mode,
         };
-        self.seats[was.waiting.head] = Seat {
+        self.seats[was.waiting.head] = ParkedAt {
             before: was.parked.tail,
             queue,
             parked: true,

@@ -7,7 +7,7 @@ ghost use Rattle.core_queues.specs.Waking.{Wakes};
 use super::Queues;
 use crate::line::{Line, Queue};
 use crate::parks::{join_lines, keep_wake, move_out};
-use crate::seats::{Seat, Stands, leave, read_seat, vacate};
+use crate::seats::{ParkedAt, Stands, leave, read_seat, vacate};
 use crate::waiting::{Waiting, append};
 use base_words::{JobId, QueueNo};
 use std::alloc::Allocator;
@@ -45,7 +45,7 @@ impl<J: Drop, A: Allocator + Clone> Queues<J, A> {
         let longer = append(&mut self.jobs, line, last);
         self.names.insert(&name, longer.tail);
         self.lines[place].parked = longer;
-        self.seats[longer.tail] = Seat {
+        self.seats[longer.tail] = ParkedAt {
             before: line.tail,
             queue,
             parked: true,

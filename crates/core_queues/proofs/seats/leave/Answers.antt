@@ -1,4 +1,4 @@
-use Rattle.core_queues.proofs.Words.{arith, false, length-set, Seat}
+use Rattle.core_queues.proofs.Words.{arith, false, length-set, ParkedAt}
 use Rattle.core_queues.proofs.SeatWrites.{LeavesSeat-last, LeavesSeat-told}
 use Rattle.core_queues.proofs.seats.leave.Goals as goal
 
@@ -13,7 +13,7 @@ returns-then-line-key g c = LeavesSeat-last c.args.seats.now.items c.args.line c
 
 pub index_mut-requires-2 : goal.index_mut-requires-2
 index_mut-requires-2 g c =
-    let now : Seat = record c.index_mut.result.now { parked = false } in
+    let now : ParkedAt = record c.index_mut.result.now { parked = false } in
     omega (arith, c.requires.behind c.if-line-key.false, length-set c.args.seats.now.items c.args.key now)
 
 pub returns : goal.returns
