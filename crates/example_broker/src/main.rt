@@ -15,11 +15,11 @@ use std::process::ExitCode;
 use std::sync::Wait;
 use std::thread::Threads;
 use std::time::Clock;
-use work::{CORES, FETCH, PUBLISH, Work};
+use work::{BrokerJob, CORES, FETCH, PUBLISH};
 
 mod work;
 
-type Node<R> = duthlwyran::Node<Work, SystemClock<R>>;
+type Node<R> = duthlwyran::Node<BrokerJob, SystemClock<R>>;
 
 /// So many messages are published on each core.
 const MESSAGES: u32 = 100;
@@ -39,7 +39,12 @@ where
 }
 
 /// Submits a job that hasn't answered.
-fn submit<R: Drop>(node: &mut Node<R>, core: CoreNo, queue: QueueNo, job: Work) -> Result<Ticket>
+fn submit<R: Drop>(
+    node: &mut Node<R>,
+    core: CoreNo,
+    queue: QueueNo,
+    job: BrokerJob,
+) -> Result<Ticket>
     requires open { is_over job ≡ false }
 {
     Ok(node.submit(Queue { core, queue }, job)?)
@@ -54,7 +59,7 @@ fn answer<R: Wait + Drop>(rt: &R, node: &mut Node<R>, ticket: Ticket) -> Result<
 fn publish<R: Drop>(node: &mut Node<R>, on: CoreNo, tickets: &mut Vec<Ticket>) -> Result<()> {
     for before in 0..MESSAGES {
         let (message, kept) = (before + 1, None);
-        let ticket = submit(node, on, PUBLISH, Work::Publish { message, on, kept })?;
+        let ticket = submit(node, on, PUBLISH, BrokerJob::Publish { message, on, kept })?;
         tickets.push(ticket)?;
     }
     Ok(())
@@ -80,7 +85,7 @@ fn taken(asked: &mut Asked<Vec<u64>>, number: u64) -> Option<Vec<u64>>
 fn fetch<R: Wait + Drop>(rt: &R, node: &mut Node<R>, alloc: Global) -> Result<usize> {
     let (reply, mut asked) = open(alloc)?;
     let places = Vec::new(alloc);
-    let ticket = submit(node, CoreNo(0), FETCH, Work::Fetch { places, reply })?;
+    let ticket = submit(node, CoreNo(0), FETCH, BrokerJob::Fetch { places, reply })?;
     let number = answer(rt, node, ticket)?;
     Ok(match taken(&mut asked, number) {
         Some(places) => places.len(),
@@ -97,7 +102,7 @@ fn read_back<R: Wait + Drop>(rt: &R, node: &mut Node<R>, ticket: Ticket) -> Resu
         return Ok(0);
     };
     match back.into_error() {
-        WaitError::Returned(_, Order::Job(_, Work::Hold { places })) => Ok(places.len()),
+        WaitError::Returned(_, Order::Job(_, BrokerJob::Hold { places })) => Ok(places.len()),
         _ => Ok(0),
     }
 }
@@ -112,7 +117,7 @@ fn serve<R: Wait + Print + Drop>(rt: &R, node: &mut Node<R>, alloc: Global) -> R
     let sum = sum_of(rt, node, &tickets)?;
     println!(rt; "published {}, places {sum}", tickets.len())?;
     let places = Vec::new(alloc);
-    let held = submit(node, CoreNo(0), FETCH, Work::Hold { places })?;
+    let held = submit(node, CoreNo(0), FETCH, BrokerJob::Hold { places })?;
     let count = fetch(rt, node, alloc)?;
     println!(rt; "fetched {count} places")?;
     let count = read_back(rt, node, held)?;

@@ -1,4 +1,4 @@
-//! The kinds of work of a broker, as one type. A job that publishes is parked until another core has indexed its message and wakes it.
+//! The jobs of a broker, as one type. A job that publishes is parked until another core has indexed its message and wakes it.
 
 ghost use Rattle.std.specs.Prelude.{◌≡◌, true};
 ghost use Rattle.duthlwyran.specs.Jobs.{Done, is_done_step};
@@ -28,7 +28,7 @@ const COUNT: u64 = 100;
 
 /// What is submitted to a core.
 #[derive(Drop)]
-pub enum Work {
+pub enum BrokerJob {
     /// Publishes a message on this core: the next core indexes it, and the answer is its place, or 0 if no index came back. Message n is
     /// submission n of the caller to the core, which is the name by which the job is woken.
     Publish {
@@ -54,13 +54,13 @@ pub enum Work {
     Ended,
 }
 
-impl Work {
+impl BrokerJob {
     /// The end of a job.
     fn end(&mut self, answer: u64) -> Step<u64>
         ensures answer { result ≡ Done answer }
         ensures over { is_over self.new ≡ true }
     {
-        *self = Work::Ended;
+        *self = BrokerJob::Ended;
         Step::Done(answer)
     }
 
@@ -68,8 +68,8 @@ impl Work {
     fn fill(&mut self) -> Step<u64>
         ensures done { is_over self.new ≡ is_done_step result }
     {
-        match mem::replace(self, Work::Ended) {
-            Work::Fetch { places, reply } => Step::Done(reply.fill(places)),
+        match mem::replace(self, BrokerJob::Ended) {
+            BrokerJob::Fetch { places, reply } => Step::Done(reply.fill(places)),
             // No other job fetches.
             _ => Step::Done(0),
         }
@@ -82,7 +82,7 @@ fn add_next(places: &mut Vec<u64>) -> bool {
     before < COUNT && places.push(before * 2 + 2).is_ok()
 }
 
-impl Task for Work {
+impl Task for BrokerJob {
     ghost use Rattle.duthlwyran.specs.Jobs.{plain_meaning, plain_laws};
     ghost use Rattle.example_broker.specs.Over.{is_over};
 
@@ -95,7 +95,7 @@ impl Task for Work {
     ghost laws = { plain_laws is_over };
 
     fn is_done(&self) -> bool {
-        matches!(self, Work::Ended)
+        matches!(self, BrokerJob::Ended)
     }
 
     fn told(&self) -> Option<u64> {
@@ -103,20 +103,20 @@ impl Task for Work {
     }
 }
 
-impl Job for Work {
+impl Job for BrokerJob {
     fn poll<P: Post<Self, u64>>(&mut self, post: &mut P) -> Step<u64> {
         poll_asking(self, post)
     }
 }
 
-impl Asks for Work {
+impl Asks for BrokerJob {
     fn ask<P: Post<Self, u64>>(&mut self, begun: &Snapshot<P>, post: &mut P) -> Step<u64> {
         match self {
-            Work::Publish { message, on, kept } => {
+            BrokerJob::Publish { message, on, kept } => {
                 let Some(ticket) = *kept else {
                     let (message, on) = (*message, *on);
                     let next = CoreNo((on.0 % CORES + 1) % CORES);
-                    let order = Order::Job(INDEX, Work::Index { message, on });
+                    let order = Order::Job(INDEX, BrokerJob::Index { message, on });
                     *kept = submit_and_keep(begun, post, next, order).ok();
                     return if kept.is_some() {
                         Step::Park
@@ -131,26 +131,26 @@ impl Asks for Work {
                     _ => self.end(0),
                 }
             }
-            Work::Index { message, on } => {
+            BrokerJob::Index { message, on } => {
                 let message = *message as u64;
                 match submit_and_detach(begun, post, *on, Order::Wake(CALLER, message)) {
                     Err(SendError::Full(_)) => Step::Yield,
                     _ => self.end(message * 2),
                 }
             }
-            Work::Fetch { places, .. } => {
+            BrokerJob::Fetch { places, .. } => {
                 if add_next(places) {
                     return Step::Yield;
                 }
                 self.fill()
             }
-            Work::Hold { places } => {
+            BrokerJob::Hold { places } => {
                 if add_next(places) {
                     return Step::Yield;
                 }
                 Step::Park
             }
-            Work::Ended => Step::Yield,
+            BrokerJob::Ended => Step::Yield,
         }
     }
 }

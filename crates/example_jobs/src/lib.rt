@@ -3,4 +3,4 @@
 
 mod work;
 
-pub use work::{NOT_INDEXED, Work};
+pub use work::{MessageJob, NOT_INDEXED};

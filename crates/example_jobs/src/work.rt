@@ -1,4 +1,4 @@
-//! Three kinds of work that ask their post. Nothing is told of them, and so they take no proof file.
+//! Three kinds of job that ask their post. No contract knows their answers, and so they take no proof file.
 
 ghost use Rattle.std.specs.Prelude.{◌≡◌, true};
 ghost use Rattle.example_jobs.specs.Over.{is_over};
@@ -17,9 +17,9 @@ const QUEUE: QueueNo = QueueNo(0);
 /// The answer of a message for which no index came back.
 pub const NOT_INDEXED: u64 = u64::MAX;
 
-/// The work of a broker.
+/// The jobs of a broker.
 #[derive(Drop)]
-pub enum Work {
+pub enum MessageJob {
     /// Publishes a message: a core indexes it, and the answer is what that core answered. While the link is full it tries again.
     Publish {
         message: u32,
@@ -39,18 +39,18 @@ pub enum Work {
     Ended,
 }
 
-impl Work {
+impl MessageJob {
     /// The end of a job.
     fn end(&mut self, answer: u64) -> Step<u64>
         ensures answer { result ≡ Done answer }
         ensures over { is_over self.new ≡ true }
     {
-        *self = Work::Ended;
+        *self = MessageJob::Ended;
         Step::Done(answer)
     }
 }
 
-impl Task for Work {
+impl Task for MessageJob {
     ghost use Rattle.example_jobs.specs.Over.{is_over};
     ghost use Rattle.base_jobs.specs.Plain.{plain_meaning, plain_laws};
 
@@ -63,7 +63,7 @@ impl Task for Work {
     ghost laws = { plain_laws is_over };
 
     fn is_done(&self) -> bool {
-        matches!(self, Work::Ended)
+        matches!(self, MessageJob::Ended)
     }
 
     fn told(&self) -> Option<u64> {
@@ -71,22 +71,22 @@ impl Task for Work {
     }
 }
 
-impl Job for Work {
+impl Job for MessageJob {
     fn poll<P: Post<Self, u64>>(&mut self, post: &mut P) -> Step<u64> {
         poll_asking(self, post)
     }
 }
 
-impl Asks for Work {
+impl Asks for MessageJob {
     fn ask<P: Post<Self, u64>>(&mut self, begun: &Snapshot<P>, post: &mut P) -> Step<u64> {
         match self {
-            Work::Publish {
+            MessageJob::Publish {
                 message,
                 index,
                 kept,
             } => {
                 let Some(ticket) = *kept else {
-                    let order = Order::Job(QUEUE, Work::Index { message: *message });
+                    let order = Order::Job(QUEUE, MessageJob::Index { message: *message });
                     *kept = submit_and_keep(begun, post, *index, order).ok();
                     return Step::Yield;
                 };
@@ -96,20 +96,20 @@ impl Asks for Work {
                     _ => self.end(NOT_INDEXED),
                 }
             }
-            Work::Index { message } => {
+            MessageJob::Index { message } => {
                 let place = *message as u64 * 2;
                 self.end(place)
             }
-            Work::Compact { blocks, index } => {
+            MessageJob::Compact { blocks, index } => {
                 if *blocks > 0 {
                     *blocks -= 1;
                     return Step::Yield;
                 }
-                let order = Order::Job(QUEUE, Work::Index { message: 0 });
+                let order = Order::Job(QUEUE, MessageJob::Index { message: 0 });
                 let accepted = submit_and_detach(begun, post, *index, order).is_ok();
                 self.end(accepted as u64)
             }
-            Work::Ended => Step::Yield,
+            MessageJob::Ended => Step::Yield,
         }
     }
 }

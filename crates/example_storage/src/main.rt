@@ -13,12 +13,12 @@ use std::sync::Wait;
 use std::thread::Threads;
 use std::time::Clock;
 use table::Table;
-use work::Work;
+use work::StoreJob;
 
 mod table;
 mod work;
 
-type Node<R> = duthlwyran::Node<Work, SystemClock<R>>;
+type Node<R> = duthlwyran::Node<StoreJob, SystemClock<R>>;
 
 const CORES: u8 = 2;
 
@@ -45,14 +45,14 @@ where
 
 /// Reads the value of a key.
 fn read<R: Wait + Drop>(rt: &R, node: &mut Node<R>, core: CoreNo, key: u32) -> Result<u64> {
-    let ticket = node.submit(Queue { core, queue: READS }, Work::Read { key })?;
+    let ticket = node.submit(Queue { core, queue: READS }, StoreJob::Read { key })?;
     Ok(node.wait(rt, ticket)?)
 }
 
 /// Submits a compaction of so many blocks, and nobody waits for it.
 fn compact<R: Drop>(node: &mut Node<R>, core: CoreNo, blocks: u32) -> Result<()> {
     let (queue, left) = (COMPACTION, blocks);
-    let ticket = node.submit(Queue { core, queue }, Work::Compact { blocks, left })?;
+    let ticket = node.submit(Queue { core, queue }, StoreJob::Compact { blocks, left })?;
     Ok(node.runtime.detach(ticket)?)
 }
 
@@ -60,7 +60,7 @@ fn compact<R: Drop>(node: &mut Node<R>, core: CoreNo, blocks: u32) -> Result<()>
 /// twice and never in vain. A wake that comes before the park is kept.
 fn commit<R: Wait + Drop>(rt: &R, node: &mut Node<R>, key: u32) -> Result<u64> {
     let (core, queue, is_written) = (CoreNo(0), READS, false);
-    let ticket = node.submit(Queue { core, queue }, Work::Commit { key, is_written })?;
+    let ticket = node.submit(Queue { core, queue }, StoreJob::Commit { key, is_written })?;
     let name = ticket.name();
     read(rt, node, CoreNo(1), key)?;
     let wake = Order::Wake(name.from, name.number);

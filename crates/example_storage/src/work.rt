@@ -1,4 +1,4 @@
-//! The kinds of work of this program, as one type: it needs no box, and its answers are exact.
+//! The jobs of this program, as one type: it needs no box, and its answers are exact.
 
 ghost use Rattle.std.specs.Prelude.{◌≡◌, false};
 
@@ -7,7 +7,7 @@ use duthlwyran::{Job, Post, Step, Task};
 
 /// What is submitted to a core.
 #[derive(Drop)]
-pub enum Work {
+pub enum StoreJob {
     /// In the foreground: the value of a key, in one poll.
     Read { key: u32 },
     /// In the background: so many blocks are merged, one in each poll.
@@ -19,7 +19,7 @@ pub enum Work {
 }
 
 // What the work answers stands in specs/Answers.antt. The rest of this block is the same for each such enum that submits nothing itself.
-impl Task for Work {
+impl Task for StoreJob {
     ghost use Rattle.duthlwyran.specs.Jobs.{answering_meaning, answering_laws};
     ghost use Rattle.example_storage.specs.Answers.{MayAnswer, is_ended};
 
@@ -32,7 +32,7 @@ impl Task for Work {
     ghost laws = { answering_laws is_ended MayAnswer };
 
     fn is_done(&self) -> bool {
-        matches!(self, Work::Ended)
+        matches!(self, StoreJob::Ended)
     }
 
     fn told(&self) -> Option<u64> {
@@ -40,31 +40,31 @@ impl Task for Work {
     }
 }
 
-impl Job for Work {
+impl Job for StoreJob {
     fn poll<P: Post<Self, u64>>(&mut self, post: &mut P) -> Step<u64> {
         let answer = match self {
-            Work::Read { key } => {
+            StoreJob::Read { key } => {
                 let table = post.local();
                 table.reads = table.reads.saturating_add(1);
                 *key as u64 * *key as u64
             }
-            Work::Compact { blocks, left } => {
+            StoreJob::Compact { blocks, left } => {
                 if *left > 0 {
                     *left -= 1;
                     return Step::Yield;
                 }
                 *blocks as u64
             }
-            Work::Commit { key, is_written } => {
+            StoreJob::Commit { key, is_written } => {
                 if !*is_written {
                     *is_written = post.local().keys.push(*key).is_ok();
                     return if *is_written { Step::Park } else { Step::Yield };
                 }
                 *key as u64
             }
-            Work::Ended => return Step::Yield,
+            StoreJob::Ended => return Step::Yield,
         };
-        *self = Work::Ended;
+        *self = StoreJob::Ended;
         Step::Done(answer)
     }
 }
