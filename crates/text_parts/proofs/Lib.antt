@@ -6,3 +6,4 @@ pub mod HouseLemmas
 pub mod HouseLaws
 pub mod HouseReads
 pub mod HousesRefused
+pub mod WholeLemmas

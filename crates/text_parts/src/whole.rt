@@ -48,7 +48,7 @@ fn read_all<S: Source>(alloc: Global, source: &mut S) -> Result<Vec<u8>, BytesFa
 {
     let mut page = [0u8; PAGE];
     let mut bytes = Vec::new(alloc);
-    loop {
+    while bytes.len() < usize::MAX {
         let Ok(count) = read_some(source, &mut page) else {
             return Err(BytesFault::Read);
         };
@@ -57,6 +57,7 @@ fn read_all<S: Source>(alloc: Global, source: &mut S) -> Result<Vec<u8>, BytesFa
         }
         bytes.extend_from_slice(&page[..count])?;
     }
+    Err(BytesFault::Memory)
 }
 
 /// The text of the journals that these bytes are.
