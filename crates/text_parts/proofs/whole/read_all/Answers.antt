@@ -1,4 +1,4 @@
-use Rattle.std.proofs.Common.{arith, rules, take}
+use Rattle.std.proofs.Common.{arith, rules}
 use Rattle.std.proofs.KnownBytes.{Consumes-trans}
 use Rattle.text_parts.proofs.WholeLemmas.{none_more}
 use Rattle.text_parts.proofs.whole.read_all.Goals as goal
