@@ -1,5 +1,5 @@
 -- How a poll begins: by a pick, or in the open turn. What either tells of the notes, of the turn and of the job that is out; and what the poll leaves of its turn.
-use Rattle.actor_core.proofs.Names.{◌≡◌, ◌⊎◌, inl, inr, ℕ, ◌+◌, Bool, true, false, List, [], ◌∷◌, ◌++◌, Option, Some, None, refl, sym, ◌∙◌, ap, subst, arith, cond, add-zero}
+use Rattle.actor_core.proofs.Names.{◌≡◌, ◌⊎◌, inl, inr, ℕ, ◌+◌, Bool, true, false, List, [], ◌∷◌, ◌++◌, Some, None, refl, sym, ◌∙◌, ap, subst, arith, cond, add-zero}
 use Rattle.actor_core.proofs.Names.{ArePosts, JobId, Journal, Note, RecordedView, Settled, is_wake_kept, poll_note, settle_note, or_else}
 use Rattle.actor_core.proofs.AgreementNames.{begun_if_open, has_bursts, polls_in_turn, queue_begun_last, queue_just_picked}
 use Rattle.base_words.specs.declared.note.Note.TheVariants as writes

@@ -1,5 +1,5 @@
 -- A core beside its journal takes a further job of the open turn out, and ends the turn; or nothing follows.
-use Rattle.actor_core.proofs.Names.{◌≡◌, ℕ, ◌-◌, Bool, true, false, List, [], ◌∷◌, refl, sym, ◌∙◌, ap, subst}
+use Rattle.actor_core.proofs.Names.{◌≡◌, ℕ, Bool, true, false, List, [], ◌∷◌, refl, sym, ◌∙◌, ap, subst}
 use Rattle.actor_core.proofs.Names.{arith, None, JobId, Note}
 use Rattle.actor_core.proofs.Names.{Meaning, Turn, Start, Resume, Idle}
 use Rattle.actor_core.proofs.Names.{CoreView, IsJobOut}

@@ -1,5 +1,5 @@
 -- The head of a line goes out or back: one job fewer is inside, and all others keep their tasks.
-use Rattle.actor_core.proofs.Names.{◌≡◌, ℕ, ◌-◌, List, ◌∷◌, sym, ◌∙◌, ap, subst}
+use Rattle.actor_core.proofs.Names.{◌≡◌, ℕ, List, ◌∷◌, sym, ◌∙◌, ap, subst}
 use Rattle.actor_core.proofs.Names.{arith, JobId, Note}
 use Rattle.actor_core.proofs.Names.{Meaning, waiting_of}
 use Rattle.actor_core.proofs.Names.{CoreView}

@@ -1,7 +1,7 @@
 -- Each poll of a journal stays owed when notes are written that settle no poll, and when more is known.
 use Rattle.actor_core.proofs.Names.{◌≡◌, ℕ, ◌+◌, List, [], ◌∷◌, ◌++◌, Option, Some, None, none-some, refl, sym, ◌∙◌, ap}
 use Rattle.actor_core.proofs.Names.{add-zero, JobId, Note, Envelope, Order, Journal, Terms, Meaning, Step, Call}
-use Rattle.actor_core.proofs.Names.{name_settled, is_name, number_if, polls_made, ArePosts, AreCollected, order_taken, or_else, cond}
+use Rattle.actor_core.proofs.Names.{name_settled, is_name, number_if, polls_made, AreCollected, order_taken, or_else, cond}
 use Rattle.actor_core.proofs.Names.{same_name}
 use Rattle.base_words.specs.declared.note.Note.TheVariants as writes
 use Rattle.base_words.specs.declared.order.SendError.TheVariants as refused
@@ -22,14 +22,6 @@ module _ {T : Type 0} where
   pub settle_nothing-append : (later earlier : List (Note T)) → SettleNothing later → SettleNothing earlier → SettleNothing (later ++ earlier)
   settle_nothing-append [] earlier one two = two
   settle_nothing-append (note ∷ later) earlier one two = (one.0, settle_nothing-append later earlier one.1 two)
-
-  -- so it is of what is posted
-  pub posts_settle_nothing : (notes : List (Note T)) → ArePosts notes → SettleNothing notes
-  posts_settle_nothing [] posts = tt
-  posts_settle_nothing (writes.Sent name order ∷ notes) posts = (refl, posts_settle_nothing notes posts)
-  posts_settle_nothing (writes.Redeemed name outcome ∷ notes) posts = (refl, posts_settle_nothing notes posts)
-  posts_settle_nothing (writes.Detached name ∷ notes) posts = (refl, posts_settle_nothing notes posts)
-  posts_settle_nothing (_ ∷ notes) posts = absurd posts
 
   -- and of what is collected
   pub collections_settle_nothing : (core : ℕ) (notes : List (Note T)) → AreCollected core notes → SettleNothing notes

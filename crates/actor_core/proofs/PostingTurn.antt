@@ -1,7 +1,7 @@
 -- A poll in place with posts, beside its journal: the notes of its beginning are written behind the old ones, then what is posted, then the note of the settling.
 use Rattle.actor_core.proofs.Names.{◌≡◌, refl, ℕ, ◌+◌, Bool, List, length, reverse}
 use Rattle.actor_core.proofs.Names.{sym, ◌∙◌, ap, subst, arith, JobId, Note, Envelope}
-use Rattle.actor_core.proofs.Names.{turns, Step, Meaning, CoreView}
+use Rattle.actor_core.proofs.Names.{Step, Meaning, CoreView}
 use Rattle.actor_core.proofs.Names.{settle_notes, Outward, DeskView, IsWritten, terms_of_desk, desk_with}
 use Rattle.actor_core.proofs.Names.{RecordedView, IsRecorded, desk_of, LeavesOwed, AreOutsOf}
 use Rattle.actor_core.proofs.Names.{option_map, ◌*◌, ◌≤◌, same_Some, outcome_note, Call, Doing, Makes, IsMeaning}

@@ -1,19 +1,17 @@
 -- The polls of a script job are its words.
-use Rattle.actor_core.proofs.Names.{◌≡◌, ℕ, zero, suc, ◌+◌, ◌<◌, Bool, true, false, true≢false, List, [], ◌∷◌, ◌++◌, length, Option, Some, None, slice_get, refl, sym, ◌∙◌, ap, subst, arith}
-use Rattle.actor_core.proofs.Names.{JobId, Note, Journal, Terms, Step, Call, IfSome, polls_made, poll_note, slice_get_within}
+use Rattle.actor_core.proofs.Names.{◌≡◌, ℕ, zero, suc, ◌+◌, true, false, true≢false, List, [], ◌∷◌, length, Option, Some, None, slice_get, refl, sym, ◌∙◌, ap, subst, arith}
+use Rattle.actor_core.proofs.Names.{JobId, Journal, Terms, Step, Call, IfSome, polls_made, poll_note, slice_get_within}
 use Rattle.actor_core.proofs.Names.{inl, inr}
 use Rattle.std.proofs.lemmas.Bool.Decides.{eqb_tells}
-use Rattle.base_words.specs.declared.note.Note.TheVariants as writes
 use Rattle.base_jobs.specs.ScriptMeaning.{script_meaning}
 use Rattle.base_jobs.specs.Scripts.{Script, EndsDone, IsScript, Does}
 use Rattle.base_jobs.specs.Steps.{is_done_step}
-use Rattle.base_jobs.specs.declared.job.Step.TheVariants as steps
 use Rattle.base_jobs.specs.declared.poll.Poll.{Poll}
 use Rattle.base_jobs.specs.declared.poll.Poll.TheVariants as poll
 use Rattle.actor_core.specs.OwedPolls.{IsPollOf}
 use Rattle.actor_core.specs.RightAnswers.{Seen, posted_notes}
 use Rattle.actor_core.specs.ScriptPolls.{SettlesWord, IsWordOf, IsPolledByWords}
-use Rattle.actor_core.proofs.OwedNotes.{SettleNothing, polls_made-longer, posted_settle_nothing}
+use Rattle.actor_core.proofs.OwedNotes.{polls_made-longer, posted_settle_nothing}
 use Rattle.actor_core.proofs.OwedSteps.{begin_settles_nothing}
 
 -- a poll that is done stands last, and each other before it

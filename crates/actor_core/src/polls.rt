@@ -46,6 +46,7 @@ fn post_first<J: Job + Task<Out = u64>, A: Allocator + Clone, E: Around<J>, M: M
 }
 
 // Makes a further poll of the open turn, of the job that was told ahead, in the same way.
+#[inline(always)]
 fn post_further<J: Job + Task<Out = u64>, A: Allocator + Clone, E: Around<J>, M: Meter>(
     core: &mut Recorded<J, A>,
     around: &mut E,
@@ -115,6 +116,7 @@ pub(crate) fn poll_first<
 }
 
 /// Asks the gate for a further poll of the open turn, of the job that was told ahead, makes it, and gives its outcome.
+#[inline(always)]
 pub(crate) fn poll_further<
     J: Job + Task<Out = u64>,
     A: Allocator + Clone,

@@ -6,8 +6,9 @@ ghost use Rattle.actor_core.specs.Rooms.{HasTurnRoom, open_queue};
 ghost use Rattle.actor_core.specs.WholeTurns.{MakesTurn, turn_view};
 
 use crate::back::hand_back;
+use crate::polls::poll_first;
 use crate::recorded::Recorded;
-use crate::through::poll_through;
+use crate::through::{end_among, poll_on};
 use base_jobs::{Job, Task};
 use base_words::CoreNo;
 use core_core::{Ahead, PickError};
@@ -54,7 +55,12 @@ pub fn turn<J: Job + Task<Out = u64>, A: Allocator + Clone, E: Around<J>, M: Met
 {
     match core.ahead() {
         Ok(Ahead::Job(next)) => {
-            poll_through(core, around, local, own, &next, meter, gate);
+            poll_first(core, around, local, own, &next, meter, gate);
+            if !core.has_open_turn() {
+                return Turned::Polled;
+            }
+            poll_on(core, around, local, own, meter, gate);
+            end_among(core, around, own);
             Turned::Polled
         }
         Ok(Ahead::Back) => {

@@ -8,7 +8,7 @@ pub use Rattle.actor_core.specs.OwedPolls.{HasOwedPolls, PollsAreOwed, seen_by}
 pub use Rattle.actor_core.specs.Polls.{poll_note, settle_note}
 pub use Rattle.actor_core.specs.Recorded.{desk_of, IsRecorded, order_taken, RecordedView, terms_at}
 pub use Rattle.actor_core.specs.RightAnswers.{Seen}
-pub use Rattle.actor_core.specs.Steps.{ClosesItself, CreatesQueue, Delivers, opened_beside, out_told, TellsShut, with_notes}
+pub use Rattle.actor_core.specs.Steps.{ClosesItself, Delivers, opened_beside, out_told, TellsShut, with_notes}
 pub use Rattle.actor_core.specs.Turns.{EndsTurn, Follows, IsBack, IsFurther, IsHandBack, IsOut, IsOutUnder, IsPick, Picks, Settles}
 pub use Rattle.actor_core.specs.Whole.{Begins, post_of, StaysPut}
 pub use Rattle.actor_core.specs.declared.whole.Turned.{Turned}

@@ -1,6 +1,6 @@
 -- A core that was just opened, over ends of links that were just opened.
-use Rattle.actor_seat.proofs.Names.{ap, AreEndsOf, arith, CreatesQueue, CreatesSince, desk_of, EndsView, Fits, fresh, fresh_has_lane, get_or_from_slice_get, HasLane, in_at, inward_of, IsFreshOut, IsInOf, IsLaneOf, IsLinked, IsOpenedOver}
-use Rattle.actor_seat.proofs.Names.{IsOpening, IsOutOf, IsRecorded, IsSameSeat, IsUnused, IsUnused-fresh, JobId, Journal, KeepsIn, KeepsOuts, length, Meaning, no_out, Ok, opened_beside, opened_desk, Option, Order, order_taken, out_of}
+use Rattle.actor_seat.proofs.Names.{ap, AreEndsOf, arith, CreatesSince, desk_of, EndsView, Fits, fresh, fresh_has_lane, get_or_from_slice_get, HasLane, in_at, inward_of, IsFreshOut, IsInOf, IsLaneOf, IsLinked, IsOpenedOver}
+use Rattle.actor_seat.proofs.Names.{IsOpening, IsOutOf, IsRecorded, IsUnused, IsUnused-fresh, JobId, Journal, Meaning, no_out, opened_beside, opened_desk, Option, Order, order_taken, out_of}
 use Rattle.actor_seat.proofs.Names.{Outcome, PollsAreOwed, RecordedView, refl, Seen, seen_by, Sending, slice_get, slice_get_within, Some, subst, sym, Terms, terms_at, ℕ, [], ◌+◌, ◌<◌, ◌∙◌, ◌∷◌, ◌≡◌, ◌≤◌}
 use Rattle.base_words.specs.declared.note.Note.TheVariants.{Created}
 use Rattle.actor_seat.proofs.Along.{ins_along, outs_along, seat_along, seat_same}
@@ -43,20 +43,6 @@ module _ {J T : Type 0} where
   }
 
   module _ {meaning : Meaning J T} where
-    -- one creation
-    pub created_one : (weight : ℕ) (old new : RecordedView J T) (queue : ℕ) → IsOpening old.journal.notes → CreatesQueue weight old (Ok queue) new → ((sender : ℕ) → KeepsIn sender old new) →
-        KeepsOuts (desk_of old) (desk_of new) → new.lanes ≡ old.lanes → IsSameSeat old new → IsRecorded meaning new → CreatesSince meaning 1 old new
-    created_one weight old new queue opening creates ins outs lanes seat sound = record {
-      opening = subst (λ journal. IsOpening journal.notes) (sym creates.2) opening;
-      few = omega (arith, ap (λ journal. length journal.notes) creates.2);
-      seat = seat;
-      ins = ins;
-      outs = outs;
-      lanes = lanes;
-      out = creates.3;
-      sound = sound;
-    }
-
     pub created_none : (view : RecordedView J T) (count : ℕ) → IsOpening view.journal.notes → IsRecorded meaning view → CreatesSince meaning count view view
     created_none view count opening sound = record {
       opening = opening;

@@ -8,9 +8,6 @@ module _ {J T : Type 0} where
   abbrev pub passed_from : Journal T → ℕ → RecordedView J T → RecordedView J T
   passed_from passed room view = record view { journal = record view.journal { passed = passed; room = room } }
 
-  pub core_kept : (old new : RecordedView J T) → new ≡ record old { journal = new.journal } → new.core ≡ old.core
-  core_kept old new rest = ap (λ view. view.core) rest
-
   -- the same of a desk
   abbrev pub desk_passed : Journal T → ℕ → DeskView J T → DeskView J T
   desk_passed passed room desk = record desk { journal = record desk.journal { passed = passed; room = room } }

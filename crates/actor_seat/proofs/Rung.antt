@@ -4,10 +4,6 @@ use Rattle.actor_seat.proofs.Names.{Grows, HasRung, IsNamedFor, Journal, length,
 use Rattle.actor_seat.proofs.Names.{reverse, reverse-append, rung_at, rung_at_some, rung_for, set, subst, sym, take, take_more, told_by, ℕ, [], ⊎_elim, ◌*◌, ◌++◌, ◌+◌, ◌<◌, ◌∙◌, ◌∷◌, ◌≡◌, ◌≢◌, ◌≤◌}
 use Rattle.std.proofs.Common.{length-append}
 
--- no bell is anywhere
-pub none_in_place : AreInPlace []
-none_in_place core low = absurd (omega (arith, low))
-
 -- one more bell behind the others
 pub one_more_in_place : (bells : List BellView) (bell : BellView) → AreInPlace bells → IsNamedFor (length bells) bell → AreInPlace (bells ++ bell ∷ [])
 one_more_in_place bells bell are is core low =

@@ -10,15 +10,15 @@ ghost use Rattle.base_words.specs.Outcomes.{outcome_note};
 ghost use Rattle.link_ends.specs.Fits.{Fits};
 ghost use Rattle.actor_desk.specs.Submissions.{IsWritten, desk_with, terms_of_desk};
 ghost use Rattle.actor_desk.specs.Ends.{KeepsSent};
-ghost use Rattle.actor_core.specs.Recorded.{IsRecorded, desk_of};
-ghost use Rattle.actor_core.specs.Ends.{IsInOf, IsInOwing, Gives, LeavesOwed, told_under, IsSameSeat};
+ghost use Rattle.actor_core.specs.Recorded.{desk_of};
+ghost use Rattle.actor_core.specs.Ends.{IsInOf, IsInOwing, Gives, told_under};
 ghost use Rattle.actor_core.specs.Owed.{outcome_settled};
 ghost use Rattle.actor_core.specs.OwedPolls.{HasOwedPolls, seen_by};
 ghost use Rattle.actor_desk.specs.Posts.{AreOutsOf, lends};
 ghost use Rattle.actor_desk.specs.Calls.{Does};
 ghost use Rattle.actor_desk.specs.Spending.{left_of};
 ghost use Rattle.actor_core.specs.Turns.{IsPick, IsFurther, NothingFollows};
-ghost use Rattle.actor_core.specs.Whole.{IsPostingTurn, LeavesTurn, MayAnswer, TurnsNoted};
+ghost use Rattle.actor_core.specs.Whole.{MayAnswer, TurnsNoted};
 
 use super::Recorded;
 use crate::handed::{give_if, outcome_done};
@@ -44,6 +44,7 @@ fn picked_notes(next: &Next) -> [Note<u64>; 2]
 }
 
 /// The note that begins a further poll of this job.
+#[inline(always)]
 fn followed_notes(next: &Next) -> [Note<u64>; 1]
     ensures { result ≡ follow_notes next.now.name next.now.started }
 {
@@ -52,6 +53,21 @@ fn followed_notes(next: &Next) -> [Note<u64>; 1]
     } else {
         [Note::Start(next.name)]
     }
+}
+
+/// The same job, with its name copied field by field: bytes that lie between them would go through memory, and wait there.
+#[inline(always)]
+fn apart(told: Option<Next>) -> Option<Next>
+    ensures { result ≡ told }
+{
+    let mut next = told?;
+    let name = next.name;
+    next.name = JobId {
+        from: name.from,
+        to: name.to,
+        number: name.number,
+    };
+    Some(next)
 }
 
 /// The note of a settled poll. A job that asks to be parked stays if a wake of it is kept.
@@ -154,6 +170,7 @@ fn turn_lent<J: Job<Out = u64>, A: Allocator + Clone, O: OutEnd<J> + Drop, M: Me
 }
 
 /// The same for a further poll, of the job that is told ahead in the open turn.
+#[inline(always)]
 fn further_lent<J: Job<Out = u64>, A: Allocator + Clone, O: OutEnd<J> + Drop, M: Meter>(
     core: &mut Core<J, A>,
     said: &mut RecordedDesk<J>,
@@ -203,7 +220,7 @@ impl<J: Task<Out = u64>, A: Allocator + Clone> Recorded<J, A> {
         ensures over { result ≡ None → IsOver self.now.core }
         ensures nothing { result ≡ None → NothingFollows self.now }
     {
-        self.core.ahead_in_turn()
+        apart(self.core.ahead_in_turn())
     }
 }
 
@@ -223,38 +240,9 @@ impl<J: Job<Out = u64>, A: Allocator + Clone> Recorded<J, A> {
         requires ahead { IsAhead self.old.core next.now.queue next.now.vr next.now.name next.now.started next.now.woken }
         requires outs { AreOutsOf (Fits J.meaning) O.out O.credited (desk_of self.old) ends.old.items }
         requires room { length self.old.journal.notes + self.old.core.cores * (3 * self.old.cap) + 3 ≤ self.old.journal.room }
-        ensures turns { IsPostingTurn J.meaning IsPick (Does (Fits J.meaning) O.out O.credited O.untouched) O.out O.untouched (λ time. M.Tells meter.old time meter.new)
-            self.old ends.old.items next.now.name next.now.queue next.now.started result self.new ends.new.items }
-        ensures owed { HasOwedPolls J.meaning (seen_by O.out ends.old.items) self.old → HasOwedPolls J.meaning (seen_by O.out ends.new.items) self.new }
-        ensures owes { (sender : ℕ) → LeavesOwed sender (told_under next.now.name (option_map outcome_note (outcome_settled {J = J} result)) sender) self.old self.new }
-        ensures may_answer { MayAnswer J.meaning self.new.took next.now.name result }
-        ensures outs { AreOutsOf (Fits J.meaning) O.out O.credited (desk_of self.new) ends.new.items }
-        ensures few { length self.new.journal.notes ≤ length self.old.journal.notes + self.old.core.cores * (3 * self.old.cap) + 3 }
-        ensures spends { length self.new.journal.notes + sum_by left_of self.new.lanes ≤ length self.old.journal.notes + sum_by left_of self.old.lanes + 3 }
-        ensures left { sum_by left_of self.old.lanes ≤ self.old.core.cores * (3 * self.old.cap) }
-        ensures in_turn { LeavesTurn self.new.core.bursts.burst next.now.queue 1 self.new.journal.notes }
-        ensures at_rest { self.new.core.out ≡ None }
-        ensures took { self.new.took ≡ self.old.took }
-        ensures seat { IsSameSeat self.old self.new }
-        ensures sound { IsRecorded J.meaning self.new }
-    {
-        self.turn_noted(ends, local, next, meter)
-    }
-
-    /// Notes the pick, makes the turn, and notes its settling.
-    #[inline(always)]
-    fn turn_noted<O: OutEnd<J> + Drop, M: Meter>(
-        &mut self,
-        ends: &mut SealedVec<O, Global>,
-        local: &mut J::Local,
-        next: &Next,
-        meter: &mut M,
-    ) -> Settled<u64>
-        requires ahead { IsAhead self.old.core next.now.queue next.now.vr next.now.name next.now.started next.now.woken }
-        requires outs { AreOutsOf (Fits J.meaning) O.out O.credited (desk_of self.old) ends.old.items }
-        requires room { length self.old.journal.notes + self.old.core.cores * (3 * self.old.cap) + 3 ≤ self.old.journal.room }
-        ensures { TurnsNoted J.meaning IsPick O.out O.credited O.untouched (λ time. M.Tells meter.old time meter.new)
+        ensures turns { TurnsNoted J.meaning IsPick O.out O.credited O.untouched (λ time. M.Tells meter.old time meter.new)
             3 1 self.old ends.old.items next.now.name next.now.queue next.now.started result self.new ends.new.items }
+        ensures owed { HasOwedPolls J.meaning (seen_by O.out ends.old.items) self.old → HasOwedPolls J.meaning (seen_by O.out ends.new.items) self.new }
     {
         self.said.see_lanes();
         let picked = picked_notes(next);
@@ -266,6 +254,7 @@ impl<J: Job<Out = u64>, A: Allocator + Clone> Recorded<J, A> {
     /// Makes a further poll of the open turn, of the job that `ahead_in_turn` told, with the job in its place. Its beginning is noted, what
     /// it posts, and its settling. The time and the outcome are as in `turn_posting`. There is room for each note that may be posted
     /// before the next outcome is collected, and for two more.
+    #[inline(always)]
     pub fn further_posting<O: OutEnd<J> + Drop, M: Meter>(
         &mut self,
         ends: &mut SealedVec<O, Global>,
@@ -276,37 +265,9 @@ impl<J: Job<Out = u64>, A: Allocator + Clone> Recorded<J, A> {
         requires ahead { IsAheadInTurn self.old.core next.now.queue next.now.vr next.now.name next.now.started next.now.woken }
         requires outs { AreOutsOf (Fits J.meaning) O.out O.credited (desk_of self.old) ends.old.items }
         requires room { length self.old.journal.notes + sum_by left_of self.old.lanes + 2 ≤ self.old.journal.room }
-        ensures turns { IsPostingTurn J.meaning IsFurther (Does (Fits J.meaning) O.out O.credited O.untouched) O.out O.untouched (λ time. M.Tells meter.old time meter.new)
-            self.old ends.old.items next.now.name next.now.queue next.now.started result self.new ends.new.items }
-        ensures owed { HasOwedPolls J.meaning (seen_by O.out ends.old.items) self.old → HasOwedPolls J.meaning (seen_by O.out ends.new.items) self.new }
-        ensures owes { (sender : ℕ) → LeavesOwed sender (told_under next.now.name (option_map outcome_note (outcome_settled {J = J} result)) sender) self.old self.new }
-        ensures may_answer { MayAnswer J.meaning self.new.took next.now.name result }
-        ensures outs { AreOutsOf (Fits J.meaning) O.out O.credited (desk_of self.new) ends.new.items }
-        ensures few { length self.new.journal.notes ≤ length self.old.journal.notes + self.old.core.cores * (3 * self.old.cap) + 2 }
-        ensures spends { length self.new.journal.notes + sum_by left_of self.new.lanes ≤ length self.old.journal.notes + sum_by left_of self.old.lanes + 2 }
-        ensures left { sum_by left_of self.old.lanes ≤ self.old.core.cores * (3 * self.old.cap) }
-        ensures in_turn { LeavesTurn self.new.core.bursts.burst next.now.queue (polls_in_turn self.old.journal.notes + 1) self.new.journal.notes }
-        ensures at_rest { self.new.core.out ≡ None }
-        ensures took { self.new.took ≡ self.old.took }
-        ensures seat { IsSameSeat self.old self.new }
-        ensures sound { IsRecorded J.meaning self.new }
-    {
-        self.further_noted(ends, local, next, meter)
-    }
-
-    /// Notes the beginning, makes the poll, and notes its settling.
-    fn further_noted<O: OutEnd<J> + Drop, M: Meter>(
-        &mut self,
-        ends: &mut SealedVec<O, Global>,
-        local: &mut J::Local,
-        next: &Next,
-        meter: &mut M,
-    ) -> Settled<u64>
-        requires ahead { IsAheadInTurn self.old.core next.now.queue next.now.vr next.now.name next.now.started next.now.woken }
-        requires outs { AreOutsOf (Fits J.meaning) O.out O.credited (desk_of self.old) ends.old.items }
-        requires room { length self.old.journal.notes + sum_by left_of self.old.lanes + 2 ≤ self.old.journal.room }
-        ensures { TurnsNoted J.meaning IsFurther O.out O.credited O.untouched (λ time. M.Tells meter.old time meter.new)
+        ensures turns { TurnsNoted J.meaning IsFurther O.out O.credited O.untouched (λ time. M.Tells meter.old time meter.new)
             2 (polls_in_turn self.old.journal.notes + 1) self.old ends.old.items next.now.name next.now.queue next.now.started result self.new ends.new.items }
+        ensures owed { HasOwedPolls J.meaning (seen_by O.out ends.old.items) self.old → HasOwedPolls J.meaning (seen_by O.out ends.new.items) self.new }
     {
         self.said.see_lanes();
         let begun = followed_notes(next);

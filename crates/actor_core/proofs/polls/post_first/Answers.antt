@@ -10,22 +10,8 @@ turn_posting-requires-clause-outs g c = outs_lent c.requires.rest.beside g.met.E
 
 pub returns-clause-posts : goal.returns-clause-posts
 returns-clause-posts g c =
-    let done = c.turn_posting.ensures in
     posted_one g.met.E.Around.laws c.turn_posting.new.self c.requires.rest.beside g.met.E.Around.sides c.lend_outs.result.now.items c.lend_outs.ensures.value c.turn_posting.new.ends.items (front_known c.requires.rest.recorded c.args.next.now.queue c.args.next.now.name _ c.requires.ahead.front)
-    (record {
-      turns = done.turns;
-      owes = done.owes;
-      may_answer = done.may_answer;
-      outs = done.outs;
-      few = done.few;
-      spends = done.spends;
-      left = done.left;
-      in_turn = done.in_turn;
-      at_rest = done.at_rest;
-      took = done.took;
-      seat = done.seat;
-      sound = done.sound;
-    })
+    c.turn_posting.ensures.turns
 
 pub returns-clause-owed : goal.returns-clause-owed
 returns-clause-owed g c =
