@@ -6,8 +6,9 @@ LAYER..   these layers alone; without a name all of them
 --jobs N  this many side by side (as many as there are processors if left out; each takes about 1 GB)
 
 A layer is a crate that stands in no line of crates.txt, since its tests needn't be proved: the code below them is. Its folder
-holds its source, lib.rt.txt and NAME.rt.txt, and NAME.antt.txt in specs/. A subfolder is a module of all that stands in it. A line of
-tests/units/layers.txt names the libraries that it uses, and the modules of tests/units/shared/ that are copied into its source.
+holds its modules, NAME.rt.txt, and NAME.antt.txt in specs/. A subfolder is a module of all that stands in it. If there is no lib.rt.txt,
+one is made that names the modules. A line of tests/units/layers.txt names the libraries that the layer uses, and the modules of
+tests/units/shared/ that are copied into its source.
 
 All layers are laid out in one copy of the repository, each as the crate units_LAYER. `rt try --test` compiles it there with all that it
 uses and with checks, and runs it. Those that take longest begin first.
@@ -79,6 +80,10 @@ def lay_out(layer, top):
     for inner in sorted((it for it in (folder / "src").rglob("*") if it.is_dir()), reverse=True):
         modules = "".join(f"pub(crate) mod {it.stem};\n" for it in sorted(inner.glob("*.rt")))
         inner.with_suffix(".rt").write_text(f"//! The modules of {inner.name}/.\n\n{modules}")
+    root = folder / "src" / "lib.rt"
+    if not root.exists():
+        modules = "".join(f"#[cfg(test)]\nmod {it.stem};\n" for it in sorted((folder / "src").glob("*.rt")))
+        root.write_text(f"//! Tests of the layer {layer}.\n#![tactic(auto)]\n\n{modules}")
     with open(top / "crates.txt", "a") as file:
         file.write(f"{crate_of(layer)} tests_may=Threads+Wait: {' '.join(libraries)}\n")
     return None
