@@ -84,6 +84,9 @@ pub(super) const PIECE: u64 = 1024;
 /// Whoever takes notes is handed so many at a time, if the journal keeps more.
 pub(super) const MOST: u64 = 4096;
 
+/// A line has so many bytes, or a few more. If there is too little room, the library is asked again.
+const LINE: u64 = 48;
+
 /// A call of the library copies so many notes at most, as text or in bytes, and so does a call that looks after notes: some 20 µs.
 const COPIED_AS_TEXT: u64 = 128;
 const COPIED_IN_BYTES: u64 = 256;
@@ -140,6 +143,7 @@ fn copy_piece(seat: &mut raw::fx_seat, gone: Option<u64>, from: u64, most: u64, 
 fn copy(seat: &mut raw::fx_seat, gone: Option<u64>, from: u64, text: &mut Vec<u8>, is_short: bool) -> Result<u64, Error> {
     let (had, mut all) = (text.len(), 0);
     let piece = if gone.is_some() { COPIED_IN_BYTES } else { COPIED_AS_TEXT };
+    text.reserve((LINE * piece.min(counts(seat)?.kept.saturating_sub(from))) as usize);
     loop {
         match copy_piece(seat, gone, from + all, piece, text) {
             Ok(notes) if notes == piece && !is_short => all += piece,
@@ -205,7 +209,8 @@ struct Texts {
 }
 
 impl Texts {
-    fn push(&mut self, notes: u64, text: Vec<u8>) {
+    fn push(&mut self, notes: u64, mut text: Vec<u8>) {
+        text.shrink_to_fit();
         self.texts.push_back((notes, text));
         self.notes += notes;
     }
