@@ -285,39 +285,40 @@ enum class form { text, bytes };
 
 // The notes of an actor of a house: what becomes of them.
 class noted {
-    // Notes are counted behind so many calls, and go on once there is a piece of them. A call hands on so many at most, or as many as so much time is
-    // enough for. The library copies so many at once.
+    // Notes are counted behind so many calls, and go on once there is a piece of them. Whoever takes them is handed so many at a time, if there are more.
     static constexpr uint32_t calls = 256;
-    static constexpr uint64_t piece = 1024, most_notes = 4096, copied = 256;
-    static constexpr std::chrono::milliseconds longest_pause{1};
+    static constexpr uint64_t piece = 1024, most_notes = 4096;
     // Who takes the notes, and where they stand as text or in bytes until he took them. Of the notes that the journal keeps so many, the oldest, went
-    // on already; and so many were kept and are no more.
+    // on already; so many were kept and are no more; and so many stand there.
     std::function<void(const std::string &)> keeper;
     std::string notes;
-    uint64_t passed = 0, gone = 0;
+    uint64_t passed = 0, gone = 0, held = 0;
     uint32_t left = calls;
 
+    // A call of the library copies so many at most, and so does a call that looks after notes: some 20 us.
+    uint64_t copied() const noexcept { return how == form::text ? 128 : 256; }
     // Puts some notes that didn't go on behind this text, and forgets all once none is left: FX_OK or FX_NO_MEMORY.
     fx_code put_some(std::string &text) {
         uint64_t some = 0, count = 0;
-        fx_code code = copy(passed, copied, text, some);
+        fx_code code = copy(passed, copied(), text, some);
         if (code != FX_OK) return code;
         passed += some;
-        if (some == copied) return FX_OK;
+        held += some;
+        if (some == copied()) return FX_OK;
         passed = 0;
         return forget(count);
     }
-    // Hands notes to whoever takes them, behind those that an exception of his left: some, or all. Whether anybody took them.
+    // Copies notes for whoever takes them, behind those that an exception of his left: some, or all. He takes them once all are copied, or many. Whether
+    // anybody takes them.
     bool hand_on(bool all) {
         if (!keeper) return false;
-        auto end = std::chrono::steady_clock::now() + longest_pause;
-        uint64_t count = 0;
         do {
             if (put_some(notes) != FX_OK) return false;
-            count += copied;
-        } while (passed > 0 && (all || (count < most_notes && std::chrono::steady_clock::now() < end)));
+        } while (passed > 0 && all);
+        if (passed > 0 && held < most_notes) return true;
         keeper(notes);
         notes.clear();
+        held = 0;
         return true;
     }
     // Hands notes on before the journal is full. A journal of few notes waits until it is.
@@ -335,7 +336,7 @@ protected:
 
     noted() = default;
     noted(noted &&other) noexcept
-        : keeper(std::move(other.keeper)), notes(std::move(other.notes)), passed(other.passed), gone(other.gone), left(other.left),
+        : keeper(std::move(other.keeper)), notes(std::move(other.notes)), passed(other.passed), gone(other.gone), held(other.held), left(other.left),
           seat(std::exchange(other.seat, fx_seat FX_NO_SEAT)), how(other.how) {}
     // So many calls may have made as many notes as one did.
     void count_more(uint64_t of) { left -= static_cast<uint32_t>(std::min<uint64_t>(left - 1, of)); }
@@ -357,6 +358,7 @@ public:
         } while (passed > 0);
         text += notes;
         notes.clear();
+        held = 0;
         return FX_OK;
     }
     // How many notes the journal keeps, and how many more it has room for: FX_OK, or FX_EMPTY behind the end.
@@ -366,7 +368,7 @@ public:
     [[nodiscard]] fx_code copy(uint64_t from, uint64_t most, std::string &text, uint64_t &notes_copied) {
         std::size_t had = text.size();
         // A line has at most 128 bytes, and a note in bytes 27, behind a head and before sums of 45.
-        uint64_t code, count = how == form::text ? 128 * std::min(most, copied) + 1 : 27 * std::min(most, copied) + 45;
+        uint64_t code, count = how == form::text ? 128 * std::min(most, copied()) + 1 : 27 * std::min(most, copied()) + 45;
         do {
             text.resize(had);
             text.resize(had + static_cast<std::size_t>(count));
@@ -386,9 +388,10 @@ public:
         return code;
     }
 
-    // From now on notes go to `takes`, as by `pass_on`, before the journal is full: about a thousand at a time, and no call hands on more than 4096
-    // or goes on with it for longer than 1 ms. A journal that has room for fewer than 2048, or is nearly full by now, goes out when it is full. So
-    // FX_JOURNAL_FULL comes only if the journal has room for fewer notes than one call may need. What is kept at the end goes out by `pass_on`.
+    // From now on notes go to `takes`, as by `pass_on`, before the journal is full: about a thousand at a time, and 4096 at most. No call copies more
+    // than 128 as text or 256 in bytes, which is some 20 us; one in ten of these calls is that of `takes`. A journal that has room for fewer than
+    // 2048, or is nearly full by now, goes out when it is full. So FX_JOURNAL_FULL comes only if the journal has room for fewer notes than one call may
+    // need. What is kept at the end goes out by `pass_on`.
     // An exception of `takes` leaves that call, which wasn't made; a job that was handed in with it is destroyed. What was written is kept: it goes first
     // the next time that notes go to `takes`, or to pass_on.
     void keep_notes_by(std::function<void(const std::string &)> takes) { keeper = std::move(takes); }

@@ -137,31 +137,4 @@ static void empty(fx_seat *seat) {
     is_poisoned();
 }
 
-/* A house of so many cores, in which core 0 ran so many jobs of the outside actor, and which is drained. */
-typedef struct {
-    fx_house house;
-    fx_seat seats[4];
-} ran;
-
-static ran ran_jobs(uint32_t cores, uint32_t jobs) {
-    ran of = {FX_NO_HOUSE, {FX_NO_SEAT, FX_NO_SEAT, FX_NO_SEAT, FX_NO_SEAT}};
-    fx_config config = config_of(cores, 2, 1, 100);
-    fx_name name;
-    uint32_t actor;
-    IS(fx_house_open(&of.house, &config), FX_OK);
-    for (uint32_t left = cores + 1; left > 0; left--) IS(fx_house_take(&of.house, &of.seats[left - 1], &actor), FX_OK);
-    for (uint32_t each = 0; each < jobs; each++) {
-        poison();
-        IS(fx_seat_submit(&of.seats[cores], 0, 0, each, &name), FX_OK);
-        IS(fx_seat_deliver(&of.seats[0], cores), FX_OK);
-        IS(fx_seat_next(&of.seats[0], &out.turn), FX_START);
-        IS(fx_seat_settle(&of.seats[0], FX_STEP_DONE, 1, 1), FX_DONE);
-    }
-    for (uint32_t core = 0; core < cores; core++) {
-        IS(fx_seat_close(&of.seats[core], FX_MODE_FINISH), FX_OK);
-        for (uint32_t sender = 0; sender <= cores; sender++) IS(fx_seat_shut(&of.seats[core], sender), FX_OK);
-    }
-    return of;
-}
-
 #endif

@@ -204,114 +204,18 @@ static void full_journals(void) {
     freed(&of);
 }
 
-/* Notes go on as a whole or not at all, at any time: then all places of the journal are free. */
-static void passing(void) {
-    static const char wanted[] = "0 took 2>0#1 q0\n0 pick q0 at 0\n0 start 2>0#1\n";
-    enum { LONG = sizeof wanted - 1 };
-    all of = opened(2, 1, 4);
+/* A link shows an order until it is delivered, and an outcome until it is collected. */
+static void showing(void) {
+    all of = opened(2, 1, 20);
     fx_seat *core = &of.seats[0], *outside = &of.seats[OUTSIDE];
-    uint8_t bytes[200];
     fx_name name;
-    poison();
-    memset(bytes, POISON, sizeof bytes);
-    IS(fx_seat_pass_on(core, bytes, 0, &out.count), FX_OK);
-    is("no note has no text", (uint32_t)out.count, 0);
-    IS(fx_seat_submit(outside, 0, 0, 7, &name), FX_OK);
+    for (int each = 0; each < 3; each++) IS(fx_seat_shows(&of.seats[each]), FX_IDLE);
+    IS(fx_seat_submit(outside, 0, 255, 7, &name), FX_OK);
+    for (int each = 0; each < 3; each++) REFUSES(&of, fx_seat_shows(&of.seats[each]), each == 0 ? FX_OK : FX_IDLE);
     IS(fx_seat_deliver(core, OUTSIDE), FX_OK);
-    REFUSES(&of, fx_seat_next(core, &out.turn), FX_JOURNAL_FULL);
-    IS(fx_seat_pass_on(core, bytes, sizeof bytes, &out.count), FX_OK);
-    is("a journal that was full has room", (uint32_t)out.count, 16);
-    IS(fx_seat_next(core, &out.turn), FX_START);
-    REFUSES(&of, fx_seat_pass_on(core, bytes + 16, LONG - 17, &out.count), FX_SHORT);
-    is("the wanted room is told", (uint32_t)out.count, LONG - 16);
-    is("and nothing else is written", bytes[16] == POISON && bytes[LONG - 1] == POISON, 1);
-    out.count = 7;
-    REFUSES(&of, fx_seat_pass_on(core, bytes + 16, 0, &out.count), FX_SHORT);
-    is("also of no room", (uint32_t)out.count, LONG - 16);
-    IS(fx_seat_pass_on(core, bytes + 16, LONG - 16, &out.count), FX_OK);
-    is("while a job runs", (uint32_t)out.count == LONG - 16 && memcmp(bytes, wanted, LONG) == 0 && bytes[LONG] == POISON, 1);
-    IS(fx_seat_settle(core, FX_STEP_DONE, 1, 1), FX_DONE);
-    IS(fx_seat_pass_on(outside, bytes, sizeof bytes, &out.count), FX_OK);
-    is("the outside actor hands on, too", (uint32_t)out.count == 20 && memcmp(bytes, "2 sent 2>0#1 job q0\n", 20) == 0, 1);
-    freed(&of);
-}
-
-static void has_notes(fx_seat *seat, uint32_t kept, uint32_t free_notes) {
-    IS(fx_seat_notes(seat, &out.count, &out.second), FX_OK);
-    is("so many notes are kept", (uint32_t)out.count, kept);
-    is("and so many are free", (uint32_t)out.second, free_notes);
-}
-
-/* A piece of so many notes, whose text is this. */
-static void copies(fx_seat *seat, uint64_t from, uint64_t most, uint32_t notes, const char *text) {
-    uint8_t bytes[200];
-    size_t long_ = strlen(text);
-    memset(bytes, POISON, sizeof bytes);
-    IS(fx_seat_copy(seat, from, most, bytes, long_, &out.count, &out.second), FX_OK);
-    is("a piece has its notes", out.count == long_ && out.second == notes, 1);
-    is("and their text alone", memcmp(bytes, text, long_) == 0 && bytes[long_] == POISON, 1);
-}
-
-/* A part in bytes of so many notes: its head and its notes are these, and behind them stand their sums. */
-static void copies_bytes(fx_seat *seat, uint64_t before, uint64_t from, uint64_t most, uint32_t notes, const uint8_t *part, size_t long_) {
-    uint8_t bytes[200];
-    uint64_t sums[2] = {0, 0};
-    memset(bytes, POISON, sizeof bytes);
-    IS(fx_seat_copy_bytes(seat, before, from, most, bytes, long_ + 16, &out.count, &out.second), FX_OK);
-    is("a part has its notes", out.count == long_ + 16 && out.second == notes, 1);
-    is("its head and their bytes", memcmp(bytes, part, long_) == 0 && bytes[long_ + 16] == POISON, 1);
-    for (size_t each = 0; each < long_; each++) sums[1] += sums[0] += bytes[each];
-    for (size_t each = 0; each < 16; each++) is("and its sums", bytes[long_ + each], (uint8_t)(sums[each / 8] >> (8 * (each % 8))));
-}
-
-/* Notes are copied piece by piece, or not at all, and forgotten: then all places of the journal are free. */
-static void copying(void) {
-    all of = opened(2, 1, 5);
-    fx_seat *core = &of.seats[0], *outside = &of.seats[OUTSIDE];
-    uint8_t bytes[200];
-    fx_name name;
-    poison();
-    has_notes(core, 0, 5);
-    copies(core, 0, 9, 0, "");
-    IS(fx_seat_submit(outside, 0, 0, 7, &name), FX_OK);
-    IS(fx_seat_deliver(core, OUTSIDE), FX_OK);
-    IS(fx_seat_next(core, &out.turn), FX_START);
-    has_notes(core, 3, 2);
-    copies(core, 0, 1, 1, "0 took 2>0#1 q0\n");
-    copies(core, 1, 1, 1, "0 pick q0 at 0\n");
-    copies(core, 2, 9, 1, "0 start 2>0#1\n");
-    copies(core, 3, 9, 0, "");
-    copies(core, 1, UINT64_MAX, 2, "0 pick q0 at 0\n0 start 2>0#1\n");
-    copies(core, 0, 0, 0, "");
-    copies(core, UINT64_MAX, UINT64_MAX, 0, "");
-    out.second = 7;
-    memset(bytes, POISON, sizeof bytes);
-    REFUSES(&of, fx_seat_copy(core, 0, 2, bytes, 30, &out.count, &out.second), FX_SHORT);
-    is("the wanted room is told, and nothing else", out.count == 31 && out.second == 7 && bytes[0] == POISON, 1);
-    has_notes(core, 3, 2);
-    /* Three notes: took 2>0#1 q0, pick q0 at 0, start 2>0#1. */
-    copies_bytes(core, 0x0102, 0, 9, 3, (const uint8_t *)"fxp1\0\2\1\0\0\0\0\0\0\3\0\0\0\0\0\0\0\51\0\0\0\0\0\0\0"
-        "\1\2\0\1\0\0\0\0\0\0\0\0" "\11\0\0\0\0\0\0\0\0\0\0\0\0\0\0\0\0\0" "\12\2\0\1\0\0\0\0\0\0\0", 70);
-    copies_bytes(core, UINT64_MAX, 2, UINT64_MAX, 1, (const uint8_t *)"fxp1\0\377\377\377\377\377\377\377\377\1\0\0\0\0\0\0\0\13\0\0\0\0\0\0\0"
-        "\12\2\0\1\0\0\0\0\0\0\0", 40);
-    copies_bytes(core, 3, UINT64_MAX, 9, 0, (const uint8_t *)"fxp1\0\3\0\0\0\0\0\0\0\0\0\0\0\0\0\0\0\0\0\0\0\0\0\0\0", 29);
-    out.second = 7;
-    memset(bytes, POISON, sizeof bytes);
-    REFUSES(&of, fx_seat_copy_bytes(core, 0, 0, 2, bytes, 74, &out.count, &out.second), FX_SHORT);
-    is("the wanted room is told, and nothing else", out.count == 75 && out.second == 7 && bytes[0] == POISON, 1);
-    has_notes(core, 3, 2);
-    REFUSES(&of, fx_seat_forget(core, &out.count), FX_OK);
-    is("while a job runs three are forgotten", (uint32_t)out.count, 3);
-    has_notes(core, 0, 5);
-    IS(fx_seat_settle(core, FX_STEP_DONE, 1, 1), FX_DONE);
-    copies(core, 0, 9, 1, "0 done 2>0#1 1 = 1\n");
-    copies(outside, 0, 9, 1, "2 sent 2>0#1 job q0\n");
-    copies_bytes(outside, 0, 0, 9, 1, (const uint8_t *)"fxp1\2\0\0\0\0\0\0\0\0\1\0\0\0\0\0\0\0\15\0\0\0\0\0\0\0" "\0\2\0\1\0\0\0\0\0\0\0\0\0", 42);
-    IS(fx_seat_forget(outside, &out.count), FX_OK);
-    is("the outside actor forgets, too", (uint32_t)out.count, 1);
-    has_notes(outside, 0, 5);
-    IS(fx_seat_forget(outside, &out.count), FX_OK);
-    is("and has nothing to forget then", (uint32_t)out.count, 0);
+    for (int each = 0; each < 3; each++) REFUSES(&of, fx_seat_shows(&of.seats[each]), each == OUTSIDE ? FX_OK : FX_IDLE);
+    IS(fx_seat_collect(outside, 0, &out.count), FX_OK);
+    for (int each = 0; each < 3; each++) IS(fx_seat_shows(&of.seats[each]), FX_IDLE);
     freed(&of);
 }
 
@@ -322,6 +226,11 @@ static void steps(void) {
     fx_name name;
     poison();
     REFUSES(&of, fx_seat_step(core, FX_STEP_DONE, 1, 1, &out.turn), FX_NO_JOB);
+    REFUSES(&of, fx_seat_step(core, UINT32_MAX, 1, 1, &out.turn), FX_BAD_NUMBER);
+    out.turn.size++;
+    REFUSES(&of, fx_seat_step(core, FX_STEP_DONE, 1, 1, &out.turn), FX_BAD_NUMBER);
+    out.turn.size--;
+    is_poisoned();
     for (uint64_t job = 6; job < 8; job++) IS(fx_seat_submit(outside, 0, 0, job, &name), FX_OK);
     for (int each = 0; each < 2; each++) IS(fx_seat_deliver(core, OUTSIDE), FX_OK);
     IS(fx_seat_next(core, &out.turn), FX_START);
@@ -350,6 +259,16 @@ static void steps(void) {
     name.number = 1;
     IS(fx_seat_redeem(outside, &name, &out.outcome), FX_OK);
     is("the first has its answer", (uint32_t)out.outcome.answer, 42);
+    /* A core that hands back settles the run, and tells what goes back. */
+    IS(fx_seat_forget(core, &out.count), FX_OK);
+    IS(fx_seat_submit(outside, 0, 0, 8, &name), FX_OK);
+    IS(fx_seat_deliver(core, OUTSIDE), FX_OK);
+    poison();
+    IS(fx_seat_next(core, &out.turn), FX_START);
+    IS(fx_seat_close(core, FX_MODE_RETURN), FX_OK);
+    IS(fx_seat_step(core, FX_STEP_YIELD, 0, 10, &out.turn), FX_BACK);
+    is("its job goes back", out.turn.name.number == name.number && out.turn.reason == FX_REASON_CORE_RETURNED, 1);
+    REFUSES(&of, fx_seat_step(core, FX_STEP_YIELD, 0, 10, &out.turn), FX_NO_JOB);
     freed(&of);
 }
 
@@ -451,6 +370,33 @@ static void moving(void) {
     freed(&of);
 }
 
+/* A house of so many cores, in which core 0 ran so many jobs of the outside actor, and which is drained. */
+typedef struct {
+    fx_house house;
+    fx_seat seats[4];
+} ran;
+
+static ran ran_jobs(uint32_t cores, uint32_t jobs) {
+    ran of = {FX_NO_HOUSE, {FX_NO_SEAT, FX_NO_SEAT, FX_NO_SEAT, FX_NO_SEAT}};
+    fx_config config = config_of(cores, 2, 1, 100);
+    fx_name name;
+    uint32_t actor;
+    IS(fx_house_open(&of.house, &config), FX_OK);
+    for (uint32_t left = cores + 1; left > 0; left--) IS(fx_house_take(&of.house, &of.seats[left - 1], &actor), FX_OK);
+    for (uint32_t each = 0; each < jobs; each++) {
+        poison();
+        IS(fx_seat_submit(&of.seats[cores], 0, 0, each, &name), FX_OK);
+        IS(fx_seat_deliver(&of.seats[0], cores), FX_OK);
+        IS(fx_seat_next(&of.seats[0], &out.turn), FX_START);
+        IS(fx_seat_settle(&of.seats[0], FX_STEP_DONE, 1, 1), FX_DONE);
+    }
+    for (uint32_t core = 0; core < cores; core++) {
+        IS(fx_seat_close(&of.seats[core], FX_MODE_FINISH), FX_OK);
+        for (uint32_t sender = 0; sender <= cores; sender++) IS(fx_seat_shut(&of.seats[core], sender), FX_OK);
+    }
+    return of;
+}
+
 /* A house of two cores and one job ends with core 0 of another house. Nothing tests that but what is asked of the journals. */
 static void crossed(uint32_t cores, uint32_t jobs, uint32_t sound, uint32_t text) {
     ran own = ran_jobs(2, 1), other = ran_jobs(cores, jobs);
@@ -499,8 +445,7 @@ int main(void) {
     numbers();
     submissions();
     full_journals();
-    passing();
-    copying();
+    showing();
     steps();
     ending();
     ending_with_less();

@@ -421,10 +421,10 @@ macro_rules! submissions {
             self.$($entered)+.seat.newest(most, text)
         }
 
-        /// From now on notes go to `takes`, as by `pass_on`, before the journal is full: about a thousand at a time, and no call hands on more than 4096
-        /// or goes on with it for longer than 1 ms. A journal that has room for fewer than 2048, or is nearly full by now, goes out when it is full. So
-        /// `JournalFull` comes only if the journal has room for fewer notes than one call may need. What is kept at
-        /// the end goes out by `pass_on`. If `takes` panics, the bytes go first to who takes notes the next time, or out by `pass_on`.
+        /// From now on notes go to `takes`, as by `pass_on`, before the journal is full: about a thousand at a time, and 4096 at most. No call copies more
+        /// than 128 as text or 256 in bytes, which is some 20 µs; one in ten of these calls is that of `takes`. A journal that has room for fewer than
+        /// 2048, or is nearly full by now, goes out when it is full. So `JournalFull` comes only if the journal has room for fewer notes than one call may
+        /// need. What is kept at the end goes out by `pass_on`. If `takes` panics, the bytes go first to who takes notes the next time, or out by `pass_on`.
         pub fn keep_notes_by(&mut self, takes: impl FnMut(&[u8]) + Send + 'static) {
             self.$($entered)+.seat.keep_notes_by(Box::new(takes));
         }

@@ -3,7 +3,6 @@
 use crate::error::{refused, Error};
 use crate::raw;
 use std::collections::VecDeque;
-use std::time::{Duration, Instant};
 
 /// What becomes of the notes of each actor. Who takes them by `keep_notes_by` comes before this.
 ///
@@ -82,12 +81,15 @@ pub struct NoteCounts {
 /// Notes go on once there are so many, if the journal has room for twice as many.
 pub(super) const PIECE: u64 = 1024;
 
-/// A call that looks after notes turns so many into text at most, or as many as so much time is enough for.
-const MOST: u64 = 4096;
-const LONGEST: Duration = Duration::from_millis(1);
+/// Whoever takes notes is handed so many at a time, if the journal keeps more.
+pub(super) const MOST: u64 = 4096;
 
-/// A call of the library copies so many notes at most, in some 30 µs.
-const COPIED: u64 = 256;
+/// A line has so many bytes, or a few more. If there is too little room, the library is asked again.
+const LINE: u64 = 48;
+
+/// A call of the library copies so many notes at most, as text or in bytes, and so does a call that looks after notes: some 20 µs.
+const COPIED_AS_TEXT: u64 = 128;
+const COPIED_IN_BYTES: u64 = 256;
 
 /// The counts of the journal of a seat.
 pub(super) fn counts(seat: &mut raw::fx_seat) -> Result<NoteCounts, Error> {
@@ -136,21 +138,20 @@ fn copy_piece(seat: &mut raw::fx_seat, gone: Option<u64>, from: u64, most: u64, 
     }
 }
 
-/// Puts notes that the journal of a seat keeps behind these bytes, from this place on: all, or as many as a pause may take. How many these are. An
-/// error leaves the bytes as they were.
+/// Puts notes that the journal of a seat keeps behind these bytes, from this place on: all, or as many as one call of the library may. How many these
+/// are. An error leaves the bytes as they were.
 fn copy(seat: &mut raw::fx_seat, gone: Option<u64>, from: u64, text: &mut Vec<u8>, is_short: bool) -> Result<u64, Error> {
-    let (had, mut all, began) = (text.len(), 0, Instant::now());
+    let (had, mut all) = (text.len(), 0);
+    let piece = if gone.is_some() { COPIED_IN_BYTES } else { COPIED_AS_TEXT };
+    text.reserve((LINE * piece.min(counts(seat)?.kept.saturating_sub(from))) as usize);
     loop {
-        match copy_piece(seat, gone, from + all, COPIED, text) {
-            Ok(COPIED) => all += COPIED,
+        match copy_piece(seat, gone, from + all, piece, text) {
+            Ok(notes) if notes == piece && !is_short => all += piece,
             Ok(notes) => return Ok(all + notes),
             Err(error) => {
                 text.truncate(had);
                 return Err(error);
             }
-        }
-        if is_short && (all >= MOST || began.elapsed() >= LONGEST) {
-            return Ok(all);
         }
     }
 }
@@ -179,14 +180,16 @@ impl Passed {
         self.at > 0
     }
 
-    /// Puts notes that didn't go on behind these bytes: all, or as many as a pause may take. Once none is left, the journal forgets them.
-    pub(super) fn pass_on(&mut self, seat: &mut raw::fx_seat, text: &mut Vec<u8>, is_short: bool) -> Result<(), Error> {
+    /// Puts notes that didn't go on behind these bytes: all, or as many as one call of the library may. Once none is left, the journal forgets them.
+    /// How many went on.
+    pub(super) fn pass_on(&mut self, seat: &mut raw::fx_seat, text: &mut Vec<u8>, is_short: bool) -> Result<u64, Error> {
         let gone = (self.form == Form::Bytes).then_some(self.gone);
-        self.at += copy(seat, gone, self.at, text, is_short)?;
+        let notes = copy(seat, gone, self.at, text, is_short)?;
+        self.at += notes;
         if self.at == counts(seat)?.kept {
             self.forget(seat)?;
         }
-        Ok(())
+        Ok(notes)
     }
 
     /// Forgets the notes that the journal keeps. How many they were.
@@ -206,7 +209,8 @@ struct Texts {
 }
 
 impl Texts {
-    fn push(&mut self, notes: u64, text: Vec<u8>) {
+    fn push(&mut self, notes: u64, mut text: Vec<u8>) {
+        text.shrink_to_fit();
         self.texts.push_back((notes, text));
         self.notes += notes;
     }
@@ -262,6 +266,11 @@ impl Newest {
         self.at > 0 && self.at < kept
     }
 
+    /// Whether one call of the library copies what is left of so many that are kept, if so many of the newest stay.
+    pub(super) fn is_near(&self, most: u64, kept: u64) -> bool {
+        kept - self.at.max(kept.saturating_sub(most)) <= COPIED_AS_TEXT
+    }
+
     /// Forgets the notes that the journal of a seat keeps, and has the text of so many of the newest from then on.
     pub(super) fn roll(&mut self, seat: &mut raw::fx_seat, passed: &mut Passed, most: u64) -> Result<(), Error> {
         let from = self.at.max(counts(seat)?.kept.saturating_sub(most));
@@ -290,7 +299,7 @@ impl Newest {
 
 #[cfg(test)]
 mod tests {
-    use super::{Journal, Texts, MOST};
+    use super::{Journal, Texts, COPIED_AS_TEXT};
     use crate::error::Error;
     use crate::linked::{Config, Core, House, Step};
     use std::cell::Cell;
@@ -305,6 +314,9 @@ mod tests {
         let (_house, mut cores, mut outside) = House::open(&Config { notes: 1 << 14, journal, ..Config::default() })?;
         outside.keep_notes_by(|_| {});
         let (mut core, mut most, mut all) = (cores.remove(0), 0, 0);
+        if journal == Journal::Keep {
+            core.keep_notes_by(|_| {});
+        }
         core.set_clock(|| 0);
         for job in 0..jobs {
             let ticket = outside.submit(0, 0, job).map_err(|(error, _)| error)?;
@@ -325,10 +337,12 @@ mod tests {
     fn no_call_turns_many_notes_into_text() -> Result<(), Error> {
         let (most, all, _core) = texts_of(Journal::Forget, 8000)?;
         assert_eq!((most, all), (0, 0));
+        let (most, all, _core) = texts_of(Journal::Keep, 8000)?;
+        assert!(most == COPIED_AS_TEXT && (29_952..=32_000).contains(&all), "{most}, {all}");
         // All of them stay, half of the room, and next to none.
         for last in [1 << 20, 1 << 13, 5000, 1000, 5] {
             let (most, all, mut core) = texts_of(Journal::Last(last), 8000)?;
-            assert!(most <= MOST, "{most} of {last}");
+            assert!(most <= COPIED_AS_TEXT, "{most} of {last}");
             // The journal was filled to its half less than four times.
             assert!(all <= 4 * (u64::from(last).min(1 << 13) + 2048), "{all} of {last}");
             let mut text = Vec::new();

@@ -1,7 +1,7 @@
 //! A seat of a house: the calls of the library, without the jobs.
 
 use super::names::{Name, Step};
-use super::notes::{counts, Form, Journal, Newest, NoteCounts, Passed, PIECE};
+use super::notes::{counts, Form, Journal, Newest, NoteCounts, Passed, MOST, PIECE};
 use crate::core::Mode;
 use crate::error::{refused, Error};
 use crate::raw;
@@ -35,8 +35,9 @@ pub(super) enum Told {
 /// Who takes the notes that a seat hands on.
 struct Keeper {
     takes: Box<dyn FnMut(&[u8]) + Send>,
-    // What was handed on and isn't taken, since `takes` panicked.
+    // What went on and isn't taken yet, or since `takes` panicked, and of how many notes it is.
     text: Vec<u8>,
+    notes: u64,
 }
 
 /// Behind so many calls that make notes, those that are kept are counted.
@@ -149,7 +150,7 @@ impl Seat {
     /// Lets notes go before the journal is full: as soon as there is a piece of them, or half of the room if the newest of them stay. A journal of few
     /// notes, or one that is kept, waits until it is full.
     ///
-    /// No call of this turns more notes into text than a pause may take. Between two there are some 1000 to 3000 more, so it keeps up with them.
+    /// No call of this copies more notes than one call of the library may. Where notes are left it comes again before there are half as many more.
     #[cold]
     fn look(&mut self) {
         self.left = CALLS;
@@ -161,7 +162,7 @@ impl Seat {
         let _ = match (self.keeper.is_some(), self.journal) {
             (true, _) if self.passed.is_between() || self.passed.has_piece(kept) => self.hand_on(true),
             (false, Journal::Forget) if kept >= PIECE => self.hand_on(true),
-            (false, Journal::Last(_)) if kept >= free => self.hand_on(true),
+            (false, Journal::Last(most)) if kept >= free && self.newest.is_near(u64::from(most), kept) => self.hand_on(true),
             (false, Journal::Last(most)) => self.newest.follow(&mut self.handle, u64::from(most), kept, (kept + free) / 2),
             _ => Ok(()),
         };
@@ -172,18 +173,21 @@ impl Seat {
 
     /// From now on notes go to whoever takes them, behind those that who took them before didn't take.
     pub(super) fn keep_notes_by(&mut self, takes: Box<dyn FnMut(&[u8]) + Send>) {
-        let text = self.keeper.take().map_or_else(Vec::new, |it| it.text);
-        self.keeper = Some(Keeper { takes, text });
+        let (text, notes) = self.keeper.take().map_or_else(|| (Vec::new(), 0), |it| (it.text, it.notes));
+        self.keeper = Some(Keeper { takes, text, notes });
     }
 
-    /// Hands notes to whoever takes them, all or as many as a pause may take, or forgets them, if they don't stay. A panic leaves what was written where
-    /// it is: it goes first the next time.
+    /// Copies notes for whoever takes them, all or as many as one call of the library may, or forgets them, if they don't stay. He takes them once all are
+    /// copied, or many. A panic leaves what was written where it is: it goes first the next time.
     #[cold]
     fn hand_on(&mut self, is_short: bool) -> Result<(), Error> {
-        if let Some(Keeper { takes, text }) = &mut self.keeper {
-            self.passed.pass_on(&mut self.handle, text, is_short)?;
-            takes(text);
-            text.clear();
+        if let Some(Keeper { takes, text, notes }) = &mut self.keeper {
+            *notes += self.passed.pass_on(&mut self.handle, text, is_short)?;
+            if !self.passed.is_between() || *notes >= MOST {
+                takes(text);
+                text.clear();
+                *notes = 0;
+            }
             return Ok(());
         }
         match self.journal {
@@ -214,10 +218,11 @@ impl Seat {
 
     /// Puts the notes that the journal keeps behind these bytes, and before them what wasn't taken.
     pub(super) fn pass_on(&mut self, text: &mut Vec<u8>) -> Result<(), Error> {
-        let mut none = Vec::new();
-        let untaken = self.keeper.as_mut().map_or(&mut none, |it| &mut it.text);
+        let (mut none, mut zero) = (Vec::new(), 0);
+        let (untaken, notes) = self.keeper.as_mut().map_or((&mut none, &mut zero), |it| (&mut it.text, &mut it.notes));
         self.passed.pass_on(&mut self.handle, untaken, false)?;
         text.append(untaken);
+        *notes = 0;
         self.newest = Newest::default();
         Ok(())
     }
