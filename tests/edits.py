@@ -233,6 +233,10 @@ class Copy:
         leave = shutil.ignore_patterns(".git", "out", "benches", "edits", "edits.txt", "must-fail")
         shutil.copytree(ROOT, self.top, ignore=leave)
         self.folder = self.top / "crates" / crate
+        # What was built of other crates. `rt` builds again what isn't of these sources.
+        for built in ROOT.glob("crates/*/out/rlib"):
+            if built.parts[-3] != crate:
+                shutil.copytree(built, self.top / "crates" / built.parts[-3] / "out" / "rlib")
 
     def rt(self, *words):
         said = subprocess.run(["rt", *words], cwd=self.folder, stdin=subprocess.DEVNULL, capture_output=True, text=True, errors="replace")
