@@ -233,10 +233,12 @@ class Copy:
         leave = shutil.ignore_patterns(".git", "out", "benches", "edits", "edits.txt", "must-fail")
         shutil.copytree(ROOT, self.top, ignore=leave)
         self.folder = self.top / "crates" / crate
-        # What was built of other crates. `rt` builds again what isn't of these sources.
-        for built in ROOT.glob("crates/*/out/rlib"):
-            if built.parts[-3] != crate:
-                shutil.copytree(built, self.top / "crates" / built.parts[-3] / "out" / "rlib")
+        # What was built of the crates below. `rt` builds again what isn't of these sources.
+        below = subprocess.run([ROOT / "tools/below", crate], capture_output=True, text=True, check=True).stdout.split()[:-1]
+        for name in below:
+            built = ROOT / "crates" / name / "out" / "rlib"
+            if built.is_dir():
+                shutil.copytree(built, self.top / "crates" / name / "out" / "rlib")
 
     def rt(self, *words):
         said = subprocess.run(["rt", *words], cwd=self.folder, stdin=subprocess.DEVNULL, capture_output=True, text=True, errors="replace")
