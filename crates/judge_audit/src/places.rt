@@ -20,7 +20,7 @@ use crate::outcomes::outcomes_fault;
 use crate::prefixes::{collections_fault, deliveries_fault};
 use crate::starts::starts_fault;
 use base_words::{ActorNo, CoreNo, Order, OutcomeNote};
-use judge_picks::picks_fault;
+use crate::picks::picks_fault;
 use note_facts::{History, NameTable};
 use note_journal::Assembly;
 

@@ -1,0 +1,43 @@
+-- What is said of all bytes of a source, and of a fault that isn't told.
+use Rattle.std.proofs.Common.{◌≡◌, ℕ, ◌++◌, List, Option, None, Some, sym, ap, ◌∙◌, subst, append-nil}
+use Rattle.std.specs.Io.KnownBytes.{Consumes, IsAtEnd}
+use Rattle.std.specs.Option.{IfSome}
+use Rattle.text_parts.specs.declared.fault.BytesFault.{BytesFault}
+use Rattle.text_parts.specs.declared.fault.BytesFault.TheVariants as fault
+use Rattle.text_parts.specs.declared.parts.PartsCause.{PartsCause}
+use Rattle.text_parts.specs.declared.parts.PartsError.{PartsError}
+use Rattle.text_parts.specs.declared.parts.PartsError.TheVariants as errors
+use Rattle.text_parts.specs.Faults.{IfBytes, IfRead, IfUnwritten, fault_of}
+use Rattle.text_parts.specs.Houses.{IfFaulty}
+
+-- what was read to the end is all that was left
+pub all_read : (old new : Option (List ℕ)) (bytes : List ℕ) (Fact : List ℕ → Type 0) → Consumes old new bytes → IsAtEnd new → Fact bytes → IfSome old Fact
+all_read None new bytes Fact took end is = tt
+all_read (Some all) None bytes Fact took end is = absurd took
+all_read (Some all) (Some rest) bytes Fact took end is = subst Fact (sym (took ∙ ap (λ left. bytes ++ left) end ∙ append-nil bytes)) is
+
+pub IfBytes-weaker : (told : BytesFault) (One Other : ℕ → PartsCause → Type 0) → ((place : ℕ) (why : PartsCause) → One place why → Other place why) → IfBytes One told → IfBytes Other told
+IfBytes-weaker (fault.Faulty place why) One Other from is = from place why is
+IfBytes-weaker fault.Read One Other from is = tt
+IfBytes-weaker fault.Write One Other from is = tt
+IfBytes-weaker fault.Memory One Other from is = tt
+
+-- what never is told is told by whatever one likes
+pub never_read : (told : BytesFault) (Fact : Type 0) → IfRead ⊥ told → IfRead Fact told
+never_read (fault.Faulty place why) Fact never = tt
+never_read fault.Read Fact never = absurd never
+never_read fault.Write Fact never = tt
+never_read fault.Memory Fact never = tt
+
+-- a reader of bytes in memory reads nothing and writes nothing
+pub judged_fault : (error : PartsError) (Fact : ℕ → PartsCause → Type 0) → IfFaulty Fact error → IfBytes Fact (fault_of error)
+judged_fault errors.Memory Fact is = tt
+judged_fault (errors.Faulty place why) Fact is = is
+
+pub judged_unread : (error : PartsError) (Fact : Type 0) → IfRead Fact (fault_of error)
+judged_unread errors.Memory Fact = tt
+judged_unread (errors.Faulty place why) Fact = tt
+
+pub judged_unwritten : (error : PartsError) (Fact : Type 0) → IfUnwritten Fact (fault_of error)
+judged_unwritten errors.Memory Fact = tt
+judged_unwritten (errors.Faulty place why) Fact = tt
