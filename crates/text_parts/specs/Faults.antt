@@ -1,5 +1,7 @@
 -- Why the bytes of a house don't become a text, and what is printed of it.
 use Rattle.std.specs.Prelude.{ℕ, ◌+◌, ◌++◌, List, codes, decimal}
+use Rattle.text_words.specs.declared.status.Status.{Status}
+use Rattle.text_words.specs.declared.status.Status.TheVariants as status
 use Rattle.text_parts.specs.declared.fault.BytesFault.{BytesFault}
 use Rattle.text_parts.specs.declared.fault.BytesFault.TheVariants as fault
 use Rattle.text_parts.specs.declared.part.PartCause.{PartCause}
@@ -31,6 +33,13 @@ fault_text (fault.Faulty place told) = codes "byte " ++ decimal (place + 1) ++ c
 fault_text fault.Read = codes "read failed"
 fault_text fault.Write = codes "write failed"
 fault_text fault.Memory = codes "out of memory"
+
+-- the exit status of a program that tells a fault
+abbrev pub bytes_status : BytesFault → Status
+bytes_status (fault.Faulty place told) = status.Refused
+bytes_status fault.Read = status.Device
+bytes_status fault.Write = status.Device
+bytes_status fault.Memory = status.Memory
 
 -- what stops a reader of bytes in memory
 abbrev pub fault_of : PartsError → BytesFault

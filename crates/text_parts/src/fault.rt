@@ -7,7 +7,7 @@ use crate::part::PartCause;
 use crate::parts::{PartsCause, PartsError};
 use std::alloc::{AllocError, AllocFailed};
 use std::fmt;
-use text_words::CauseWords;
+use text_words::{CauseWords, Status};
 
 impl CauseWords for PartsCause {
     ghost use Rattle.text_parts.specs.Faults.{cause_text};
@@ -49,6 +49,20 @@ pub enum BytesFault {
     Write,
     /// There is no memory.
     Memory,
+}
+
+impl BytesFault {
+    /// The exit status of a program that tells this fault.
+    pub fn status(&self) -> Status
+        ensures { result ≡ spec.bytes_status self.now }
+    {
+        match self {
+            BytesFault::Faulty { .. } => Status::Refused,
+            BytesFault::Read => Status::Device,
+            BytesFault::Write => Status::Device,
+            BytesFault::Memory => Status::Memory,
+        }
+    }
 }
 
 /// What is printed of a fault.
