@@ -105,12 +105,7 @@ impl<T: NoteTaker> Draft<T> {
     /// # Errors
     ///
     /// The taker has no memory.
-    pub fn begun(
-        taker: T,
-        cores: u8,
-        cap: u16,
-        burst: u8,
-    ) -> Result<Draft<T>, Stop<JournalCause>>
+    pub fn begun(taker: T, cores: u8, cap: u16, burst: u8) -> Result<Draft<T>, Stop<JournalCause>>
         requires has { T.has taker nothing_handed }
         requires some { 1 ≤ cores }
         requires few { cores ≤ most_cores }

@@ -190,6 +190,7 @@ byte_taken (byte ∷ bytes) x fits e =
 -- ---- shares, virtual runtimes and names
 
 pub weight_again : (weight : ℕ) (rest : List ℕ) → InRange weight → weight_at (short weight ++ rest) ≡ Some (weight, rest)
+unfolding weight_at
 weight_again weight rest range =
     let least : ltb weight 1 ≡ false = le-ltb _ _ (omega (arith, range)) in
     let most : ltb 10000 weight ≡ false = le-ltb _ _ (omega (arith, range)) in
@@ -203,12 +204,14 @@ kept_is false true x y e = absurd cc
 kept_is false false x y e = cc
 
 pub weight_taken : IsTaken short weight_at
+unfolding weight_at
 weight_taken bytes x fits e =
     let found = bind_some (short_at bytes) in_range x e in
     let same = kept_is (ltb found.0.0 1) (ltb 10000 found.0.0) found.0 x found.2 in
     subst (λ (y : ℕ × List ℕ). Takes bytes (short y.0) y.1) same (short_taken bytes found.0 fits found.1)
 
 pub runtime_again : (runtime : ℕ) (rest : List ℕ) → runtime < 2 ^ 128 → runtime_at (runtime_bytes runtime ++ rest) ≡ Some (runtime, rest)
+unfolding runtime_at
 runtime_again runtime rest lt =
     let whole : (runtime / 2 ^ 64) * 2 ^ 64 + runtime % 2 ^ 64 ≡ runtime = omega arith in
     let low : runtime % 2 ^ 64 < 2 ^ 64 = omega arith in
@@ -218,6 +221,7 @@ runtime_again runtime rest lt =
     ∙ ap (λ (n : ℕ). Some (n, rest)) whole
 
 pub runtime_taken : IsTaken runtime_bytes runtime_at
+unfolding runtime_at
 runtime_taken bytes x fits e =
     let a = bind_some (wide_at bytes) (λ a. wide_at a.1 >>= λ b. Some (b.0 * 2 ^ 64 + a.0, b.1)) x e in
     let b = bind_some (wide_at a.0.1) (λ b. Some (b.0 * 2 ^ 64 + a.0.0, b.1)) x a.2 in
@@ -230,6 +234,7 @@ runtime_taken bytes x fits e =
     subst (λ (y : ℕ × List ℕ). Takes bytes (runtime_bytes y.0) y.1) (some_is (b.0.0 * 2 ^ 64 + a.0.0, b.0.1) x b.2) (subst (λ (w : List ℕ). Takes bytes w b.0.1) (sym same) both)
 
 pub name_again : (name : JobId) (rest : List ℕ) → name.number < 2 ^ 64 → name_at (name_bytes name ++ rest) ≡ Some (name, rest)
+unfolding name_at
 name_again name rest lt = rw (wide_again name.number rest lt) refl
 
 pub pair_taken : {A B : Type 0} (first : Reader A) (second : Reader B) (text : A → List ℕ) (more : B → List ℕ) → IsTaken text first → IsTaken more second
@@ -237,6 +242,7 @@ pub pair_taken : {A B : Type 0} (first : Reader A) (second : Reader B) (text : A
 pair_taken first second text more taken then = both_taken [] pair first second text more (λ p. text p.0 ++ more p.1) taken then (λ a b. refl)
 
 pub name_taken : IsTaken name_bytes name_at
+unfolding name_at
 name_taken = both_taken [] name_of_parts byte_at (both pair byte_at wide_at) (λ (byte : ℕ). byte ∷ []) (λ (p : ℕ × ℕ). (p.0 ∷ []) ++ wide p.1) name_bytes byte_taken
     (pair_taken byte_at wide_at (λ (byte : ℕ). byte ∷ []) wide byte_taken wide_taken) (λ from parts. refl)
 

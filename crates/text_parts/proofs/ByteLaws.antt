@@ -9,7 +9,7 @@ use Rattle.base_words.specs.declared.note.Note.{Note}
 use Rattle.text_parts.specs.BadParts.{BadPartsAreRefused}
 use Rattle.text_journal.specs.Fields.{◌>>=◌}
 use Rattle.text_parts.specs.NoteBytes.{wide, short}
-use Rattle.text_parts.specs.ByteNotes.{note_at, wide_at, short_at}
+use Rattle.text_parts.specs.ByteNotes.{mode_at, note_at, wide_at, short_at}
 use Rattle.text_parts.specs.declared.part.Part.{Part}
 use Rattle.text_parts.specs.declared.part.PartError.{PartError}
 use Rattle.text_parts.specs.Parts.{PartView, sums_with, sums_behind, sums_of, head_at, notes_at, part_at, part_bytes, GivesPart}
@@ -69,7 +69,7 @@ sums_tell front rest one other h k e =
 -- ---- the small cases are refused: each computes
 
 pub refused : BadPartsAreRefused
-unfolding wide short wide_at short_at sums_behind head_at notes_at part_at
+unfolding wide short wide_at short_at sums_behind head_at note_at mode_at notes_at part_at
 refused = record {
   last_note_lost = refl;
   last_note_and_bytes_lost = refl;

@@ -22,13 +22,16 @@ use Rattle.text_parts.specs.ByteNotes.{both, pair, byte_at, wide_at, weight_at, 
 use Rattle.text_parts.proofs.ByteFields.{IsTaken, AreTaken, plain_taken, one_taken, both_taken, pair_taken, tagged_taken, one_again, both_again, wide_again, wide_taken, byte_taken, weight_again, weight_taken, runtime_again, runtime_taken, name_again, name_taken, named_again}
 
 mode_taken : IsTaken mode_bytes mode_at
+unfolding mode_at
 mode_taken = tagged_taken mode_bytes modes (plain_taken (0 ∷ []) mode.Finish mode_bytes refl, (plain_taken (1 ∷ []) mode.Return mode_bytes refl, tt))
 
 mode_again : (how : Mode) (rest : List ℕ) → mode_at (mode_bytes how ++ rest) ≡ Some (how, rest)
+unfolding mode_at
 mode_again mode.Finish rest = refl
 mode_again mode.Return rest = refl
 
 reason_taken : IsTaken reason_bytes reason_at
+unfolding reason_at
 reason_taken = tagged_taken reason_bytes reasons (
   plain_taken (0 ∷ []) why.NoQueue reason_bytes refl,
   (
@@ -38,6 +41,7 @@ reason_taken = tagged_taken reason_bytes reasons (
 )
 
 reason_again : (reason : Reason) (rest : List ℕ) → reason_at (reason_bytes reason ++ rest) ≡ Some (reason, rest)
+unfolding reason_at
 reason_again why.NoQueue rest = refl
 reason_again why.QueueClosed rest = refl
 reason_again why.CoreClosing rest = refl
@@ -45,6 +49,7 @@ reason_again why.QueueReturned rest = refl
 reason_again why.CoreReturned rest = refl
 
 answer_taken : IsTaken answer_bytes answer_at
+unfolding answer_at
 answer_taken = tagged_taken answer_bytes answers (
   one_taken (0 ∷ []) answer.Created byte_at (λ (byte : ℕ). byte ∷ []) answer_bytes byte_taken (λ queue. refl),
   (
@@ -69,6 +74,7 @@ answer_taken = tagged_taken answer_bytes answers (
 )
 
 answer_again : (told : Answer) (rest : List ℕ) → answer_at (answer_bytes told ++ rest) ≡ Some (told, rest)
+unfolding answer_at
 answer_again (answer.Created queue) rest = refl
 answer_again answer.TooMany rest = refl
 answer_again answer.NoMemory rest = refl
@@ -81,6 +87,7 @@ answer_again answer.Woken rest = refl
 answer_again answer.NoJob rest = refl
 
 order_taken : IsTaken order_bytes order_at
+unfolding order_at
 order_taken = tagged_taken order_bytes orders (
   one_taken (0 ∷ []) (λ queue. order.Job queue tt) byte_at (λ (byte : ℕ). byte ∷ []) order_bytes byte_taken (λ queue. refl),
   (
@@ -99,6 +106,7 @@ order_taken = tagged_taken order_bytes orders (
 )
 
 order_again : (sent : Order (Unit {0})) (rest : List ℕ) → IsSpelledOrder sent → HoldsOrder sent → order_at (order_bytes sent ++ rest) ≡ Some (sent, rest)
+unfolding order_at
 order_again (order.Job queue job) rest s h = refl
 order_again (order.Create weight) rest s h = one_again order.Create weight_at (short weight ++ rest) weight rest (weight_again weight rest s)
 order_again (order.SetShares queue weight) rest s h =
@@ -109,6 +117,7 @@ order_again (order.Wake actor number) rest s h =
     both_again order.Wake byte_at wide_at (actor ∷ (wide number ++ rest)) actor (wide number ++ rest) number rest refl (wide_again number rest h.1)
 
 outcome_taken : IsTaken outcome_bytes outcome_at
+unfolding outcome_at
 outcome_taken = tagged_taken outcome_bytes outcomes (
   one_taken (0 ∷ []) outcome.Finished wide_at wide outcome_bytes wide_taken (λ value. refl),
   (
@@ -118,6 +127,7 @@ outcome_taken = tagged_taken outcome_bytes outcomes (
 )
 
 outcome_again : (told : OutcomeNote ℕ) (rest : List ℕ) → HoldsOut told → outcome_at (outcome_bytes told ++ rest) ≡ Some (told, rest)
+unfolding outcome_at
 outcome_again (outcome.Finished value) rest h = one_again outcome.Finished wide_at (wide value ++ rest) value rest (wide_again value rest h)
 outcome_again (outcome.Returned reason) rest h = one_again outcome.Returned reason_at (reason_bytes reason ++ rest) reason rest (reason_again reason rest)
 outcome_again (outcome.Answered told) rest h = one_again outcome.Answered answer_at (answer_bytes told ++ rest) told rest (answer_again told rest)
@@ -194,6 +204,7 @@ rows_taken = (
 )
 
 pub note_taken : IsTaken note_bytes note_at
+unfolding note_at
 note_taken = tagged_taken note_bytes notes rows_taken
 
 -- a number of a name has eight bytes
@@ -206,6 +217,7 @@ two_again time value rest h k =
     both_again pair wide_at wide_at ((wide time ++ wide value) ++ rest) time (wide value ++ rest) value rest (ap wide_at (append_assoc (wide time) (wide value) rest) ∙ wide_again time (wide value ++ rest) h) (wide_again value rest k)
 
 pub note_again : (terms : Terms) (written : Note ℕ) (rest : List ℕ) → IsSpelledNote terms written → HoldsTimes written → note_at (note_bytes written ++ rest) ≡ Some (written, rest)
+unfolding note_at
 note_again terms (note.Sent name sent) rest s h = named_again note.Sent order_at name (order_bytes sent) rest sent (holds terms.cores name s.0.0) (order_again sent rest s.1 h)
 note_again terms (note.Took name queue) rest s h = named_again note.Took byte_at name (queue ∷ []) rest queue (holds terms.cores name s.0.0) refl
 note_again terms (note.Back name reason) rest s h = named_again note.Back reason_at name (reason_bytes reason) rest reason (holds terms.cores name s.0.0) (reason_again reason rest)

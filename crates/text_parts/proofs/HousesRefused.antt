@@ -12,7 +12,7 @@ use Rattle.text_parts.specs.declared.parts.HouseNumbers.{HouseNumbers}
 use Rattle.text_parts.proofs.ByteFields.{some_is}
 use Rattle.text_parts.specs.Houses.{Fits, house_at, house_draft, with_part, IsHouse, IsNext}
 use Rattle.text_parts.specs.NoteBytes.{short, wide}
-use Rattle.text_parts.specs.ByteNotes.{short_at, wide_at}
+use Rattle.text_parts.specs.ByteNotes.{mode_at, note_at, short_at, wide_at}
 use Rattle.text_parts.specs.Parts.{PartView, head_at, notes_at, part_at, part_bytes, sums_behind}
 
 within : IsHouse one_core
@@ -30,7 +30,7 @@ then_outside : IsNext (house_draft one_core) outside
 then_outside = ((omega arith, omega arith), record { before = refl; few = omega arith; spelled = All-nil (IsSpelledNote (record { actor = 1; cores = 1; cap = 4; burst = 1 })) })
 
 pub refused : BadHousesAreRefused
-unfolding house_at short wide short_at wide_at sums_behind head_at notes_at part_at
+unfolding house_at short wide short_at wide_at sums_behind head_at note_at mode_at notes_at part_at
 refused = record {
   no_core = (
     refl,

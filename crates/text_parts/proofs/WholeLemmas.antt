@@ -5,10 +5,7 @@ use Rattle.std.specs.Option.{IfSome}
 use Rattle.text_parts.specs.declared.fault.BytesFault.{BytesFault}
 use Rattle.text_parts.specs.declared.fault.BytesFault.TheVariants as fault
 use Rattle.text_parts.specs.declared.parts.PartsCause.{PartsCause}
-use Rattle.text_parts.specs.declared.parts.PartsError.{PartsError}
-use Rattle.text_parts.specs.declared.parts.PartsError.TheVariants as errors
-use Rattle.text_parts.specs.Faults.{IfBytes, IfRead, IfUnwritten, fault_of}
-use Rattle.text_parts.specs.Houses.{IfFaulty}
+use Rattle.text_parts.specs.Faults.{IfBytes, IfRead}
 
 -- what was read to the end is all that was left
 pub all_read : (old new : Option (List ℕ)) (bytes : List ℕ) (Fact : List ℕ → Type 0) → Consumes old new bytes → IsAtEnd new → Fact bytes → IfSome old Fact
@@ -28,16 +25,3 @@ never_read (fault.Faulty place why) Fact never = tt
 never_read fault.Read Fact never = absurd never
 never_read fault.Write Fact never = tt
 never_read fault.Memory Fact never = tt
-
--- a reader of bytes in memory reads nothing and writes nothing
-pub judged_fault : (error : PartsError) (Fact : ℕ → PartsCause → Type 0) → IfFaulty Fact error → IfBytes Fact (fault_of error)
-judged_fault errors.Memory Fact is = tt
-judged_fault (errors.Faulty place why) Fact is = is
-
-pub judged_unread : (error : PartsError) (Fact : Type 0) → IfRead Fact (fault_of error)
-judged_unread errors.Memory Fact = tt
-judged_unread (errors.Faulty place why) Fact = tt
-
-pub judged_unwritten : (error : PartsError) (Fact : Type 0) → IfUnwritten Fact (fault_of error)
-judged_unwritten errors.Memory Fact = tt
-judged_unwritten (errors.Faulty place why) Fact = tt

@@ -59,49 +59,49 @@ short_at bytes = if nat_lt (length bytes) 2 then None else Some (from_le_bytes w
 abbrev pub in_range : ℕ × List ℕ → Option (ℕ × List ℕ)
 in_range found = if nat_lt found.0 1 then None else (if nat_lt 10000 found.0 then None else Some found)
 
-abbrev pub weight_at : Reader ℕ
+unfoldable pub weight_at : Reader ℕ
 weight_at bytes = short_at bytes >>= in_range
 
-abbrev pub runtime_at : Reader ℕ
-runtime_at = both (λ low high. high * 2 ^ 64 + low) wide_at wide_at
+unfoldable pub runtime_at : Reader ℕ
+runtime_at bytes = both (λ low high. high * 2 ^ 64 + low) wide_at wide_at bytes
 
 abbrev pub name_of_parts : ℕ → ℕ × ℕ → JobId
 name_of_parts from parts = record { from = from; to = parts.0; number = parts.1 }
 
-abbrev pub name_at : Reader JobId
-name_at = both name_of_parts byte_at (both pair byte_at wide_at)
+unfoldable pub name_at : Reader JobId
+name_at bytes = both name_of_parts byte_at (both pair byte_at wide_at) bytes
 
 abbrev pub modes : List (Reader Mode)
 modes = plain mode.Finish ∷ plain mode.Return ∷ []
 
-abbrev pub mode_at : Reader Mode
-mode_at = tagged modes
+unfoldable pub mode_at : Reader Mode
+mode_at bytes = tagged modes bytes
 
 abbrev pub reasons : List (Reader Reason)
 reasons = plain why.NoQueue ∷ plain why.QueueClosed ∷ plain why.CoreClosing ∷ plain why.QueueReturned ∷ plain why.CoreReturned ∷ []
 
-abbrev pub reason_at : Reader Reason
-reason_at = tagged reasons
+unfoldable pub reason_at : Reader Reason
+reason_at bytes = tagged reasons bytes
 
 abbrev pub answers : List (Reader Answer)
 answers = one answer.Created byte_at ∷ plain answer.TooMany ∷ plain answer.NoMemory ∷ plain answer.CoreClosing ∷ plain answer.SharesSet ∷ plain answer.NoQueue
     ∷ plain answer.Closed ∷ plain answer.AlreadyClosed ∷ plain answer.Woken ∷ plain answer.NoJob ∷ []
 
-abbrev pub answer_at : Reader Answer
-answer_at = tagged answers
+unfoldable pub answer_at : Reader Answer
+answer_at bytes = tagged answers bytes
 
 abbrev pub orders : List (Reader (Order (Unit {0})))
 orders = one (λ queue. order.Job queue tt) byte_at ∷ one order.Create weight_at ∷ both order.SetShares byte_at weight_at ∷ both order.Close byte_at mode_at
     ∷ one order.CloseCore mode_at ∷ both order.Wake byte_at wide_at ∷ []
 
-abbrev pub order_at : Reader (Order (Unit {0}))
-order_at = tagged orders
+unfoldable pub order_at : Reader (Order (Unit {0}))
+order_at bytes = tagged orders bytes
 
 abbrev pub outcomes : List (Reader (OutcomeNote ℕ))
 outcomes = one outcome.Finished wide_at ∷ one outcome.Returned reason_at ∷ one outcome.Answered answer_at ∷ []
 
-abbrev pub outcome_at : Reader (OutcomeNote ℕ)
-outcome_at = tagged outcomes
+unfoldable pub outcome_at : Reader (OutcomeNote ℕ)
+outcome_at bytes = tagged outcomes bytes
 
 abbrev pub notes : List (Reader (Note ℕ))
 notes = both note.Sent name_at order_at ∷ both note.Took name_at byte_at ∷ both note.Back name_at reason_at ∷ both note.Answered name_at answer_at
@@ -112,5 +112,5 @@ notes = both note.Sent name_at order_at ∷ both note.Took name_at byte_at ∷ b
     ∷ both note.Turned byte_at wide_at ∷ both note.Shut byte_at wide_at
     ∷ both note.Collected name_at outcome_at ∷ both note.Redeemed name_at outcome_at ∷ one note.Detached name_at ∷ []
 
-abbrev pub note_at : Reader (Note ℕ)
-note_at = tagged notes
+unfoldable pub note_at : Reader (Note ℕ)
+note_at bytes = tagged notes bytes

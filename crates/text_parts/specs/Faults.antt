@@ -8,8 +8,6 @@ use Rattle.text_parts.specs.declared.part.PartCause.{PartCause}
 use Rattle.text_parts.specs.declared.part.PartCause.TheVariants as part
 use Rattle.text_parts.specs.declared.parts.PartsCause.{PartsCause}
 use Rattle.text_parts.specs.declared.parts.PartsCause.TheVariants as cause
-use Rattle.text_parts.specs.declared.parts.PartsError.{PartsError}
-use Rattle.text_parts.specs.declared.parts.PartsError.TheVariants as errors
 
 -- the text of what is wrong with a part
 abbrev pub part_text : PartCause → List ℕ
@@ -40,11 +38,6 @@ bytes_status (fault.Faulty place told) = status.Refused
 bytes_status fault.Read = status.Device
 bytes_status fault.Write = status.Device
 bytes_status fault.Memory = status.Memory
-
--- what stops a reader of bytes in memory
-abbrev pub fault_of : PartsError → BytesFault
-fault_of errors.Memory = fault.Memory
-fault_of (errors.Faulty place told) = fault.Faulty place told
 
 -- a fact of the place and the cause, if the bytes are faulty
 abbrev pub IfBytes : (ℕ → PartsCause → Type 0) → BytesFault → Type 0

@@ -45,6 +45,7 @@ pub(crate) fn short_at(bytes: &[u8]) -> Option<(u16, &[u8])>
 }
 
 /// Shares.
+#[tactic(auto, unfolding(crate::specs::ByteNotes::weight_at))]
 pub(crate) fn weight_at(bytes: &[u8]) -> Option<(Shares, &[u8])>
     ensures { spec.Gives (λ x. (x.0, x.1.now)) result (spec.weight_at bytes.now) }
 {
@@ -62,6 +63,7 @@ pub(crate) fn weight_at(bytes: &[u8]) -> Option<(Shares, &[u8])>
 }
 
 /// A virtual runtime.
+#[tactic(auto, unfolding(crate::specs::ByteNotes::runtime_at))]
 pub(crate) fn runtime_at(bytes: &[u8]) -> Option<(u128, &[u8])>
     ensures { spec.Gives (λ x. (x.0, x.1.now)) result (spec.runtime_at bytes.now) }
 {
@@ -71,6 +73,7 @@ pub(crate) fn runtime_at(bytes: &[u8]) -> Option<(u128, &[u8])>
 }
 
 /// The name of a submission.
+#[tactic(auto, unfolding(crate::specs::ByteNotes::name_at))]
 pub(crate) fn name_at(bytes: &[u8]) -> Option<(JobId, &[u8])>
     ensures { spec.Gives (λ x. (x.0, x.1.now)) result (spec.name_at bytes.now) }
 {
@@ -86,6 +89,7 @@ pub(crate) fn name_at(bytes: &[u8]) -> Option<(JobId, &[u8])>
 }
 
 /// How a queue or a core closes.
+#[tactic(auto, unfolding(crate::specs::ByteNotes::mode_at))]
 pub(crate) fn mode_at(bytes: &[u8]) -> Option<(Mode, &[u8])>
     ensures { spec.Gives (λ x. (x.0, x.1.now)) result (spec.mode_at bytes.now) }
 {
@@ -97,6 +101,7 @@ pub(crate) fn mode_at(bytes: &[u8]) -> Option<(Mode, &[u8])>
 }
 
 /// Why a job goes back.
+#[tactic(auto, unfolding(crate::specs::ByteNotes::reason_at))]
 pub(crate) fn reason_at(bytes: &[u8]) -> Option<(Reason, &[u8])>
     ensures { spec.Gives (λ x. (x.0, x.1.now)) result (spec.reason_at bytes.now) }
 {
@@ -111,6 +116,7 @@ pub(crate) fn reason_at(bytes: &[u8]) -> Option<(Reason, &[u8])>
 }
 
 /// What a command is answered.
+#[tactic(auto, unfolding(crate::specs::ByteNotes::answer_at))]
 pub(crate) fn answer_at(bytes: &[u8]) -> Option<(Answer, &[u8])>
     ensures { spec.Gives (λ x. (x.0, x.1.now)) result (spec.answer_at bytes.now) }
 {
@@ -133,6 +139,7 @@ pub(crate) fn answer_at(bytes: &[u8]) -> Option<(Answer, &[u8])>
 }
 
 /// An order, without its job.
+#[tactic(auto, unfolding(crate::specs::ByteNotes::order_at))]
 pub(crate) fn order_at(bytes: &[u8]) -> Option<(Order<()>, &[u8])>
     ensures { spec.Gives (λ x. (x.0, x.1.now)) result (spec.order_at bytes.now) }
 {
@@ -173,6 +180,7 @@ pub(crate) fn order_at(bytes: &[u8]) -> Option<(Order<()>, &[u8])>
 }
 
 /// What became of a submission.
+#[tactic(auto, unfolding(crate::specs::ByteNotes::outcome_at))]
 pub(crate) fn outcome_at(bytes: &[u8]) -> Option<(OutcomeNote<u64>, &[u8])>
     ensures { spec.Gives (λ x. (x.0, x.1.now)) result (spec.outcome_at bytes.now) }
 {

@@ -11,6 +11,7 @@ use crate::byte_fields::{
 use base_words::{ActorNo, Note, QueueNo};
 
 /// The note at the front, and the bytes behind it.
+#[tactic(auto, unfolding(crate::specs::ByteNotes::note_at))]
 pub fn note_at(bytes: &[u8]) -> Option<(Note<u64>, &[u8])>
     ensures { spec.Gives (λ x. (x.0, x.1.now)) result (spec.note_at bytes.now) }
 {

@@ -4,8 +4,8 @@ ghost use Rattle.std.specs.Prelude.{◌≡◌, Some};
 ghost use Rattle.text_parts.specs.Faults as spec;
 
 use crate::part::PartCause;
-use crate::parts::{PartsCause, PartsError};
-use std::alloc::{AllocError, AllocFailed};
+use crate::parts::PartsCause;
+use std::alloc::AllocError;
 use std::fmt;
 use text_words::{CauseWords, Status};
 
@@ -90,28 +90,5 @@ impl From<AllocError> for BytesFault {
 
     fn from(_error: AllocError) -> BytesFault {
         BytesFault::Memory
-    }
-}
-
-impl<T: Drop> From<AllocFailed<T>> for BytesFault {
-    ghost use Rattle.text_parts.specs.declared.fault.BytesFault.TheVariants.{Memory};
-
-    ghost from_gives = { λ _ fault. fault ≡ Memory };
-
-    fn from(_failed: AllocFailed<T>) -> BytesFault {
-        BytesFault::Memory
-    }
-}
-
-impl From<PartsError> for BytesFault {
-    ghost use Rattle.text_parts.specs.Faults.{fault_of};
-
-    ghost from_gives = { λ error fault. fault ≡ fault_of error };
-
-    fn from(error: PartsError) -> BytesFault {
-        match error {
-            PartsError::Memory => BytesFault::Memory,
-            PartsError::Faulty { place, cause } => BytesFault::Faulty { place, cause },
-        }
     }
 }

@@ -10,9 +10,9 @@ ghost use Rattle.text_parts.specs.Houses.{IsFault};
 ghost use Rattle.text_parts.specs.Wholes.{MakesText};
 
 use crate::fault::BytesFault;
-use crate::parts::read_parts;
+use crate::parts::{PartsError, read_parts};
 use note_journal::Assembly;
-use std::alloc::{AllocError, Global};
+use std::alloc::Global;
 use text_bytes::Source;
 use text_bytes::source::read_some;
 use text_journal::write_journal;
@@ -34,8 +34,10 @@ pub fn text_of_parts<S: Source>(alloc: Global, source: &mut S) -> Result<Vec<u8>
     ensures device { IfErr result (IfUnwritten ⊥) }
     ensures failed { IfErr result (IfRead (HasFailedSince S.tries S.interrupts S.fails source.old source.new)) }
 {
-    let bytes = read_all(alloc, source)?;
-    text_in(alloc, &bytes)
+    match read_all(alloc, source) {
+        Ok(bytes) => text_in(alloc, &bytes),
+        Err(fault) => Err(fault),
+    }
 }
 
 /// Reads the source to its end.
@@ -67,18 +69,24 @@ fn text_in(alloc: Global, bytes: &[u8]) -> Result<Vec<u8>, BytesFault>
     ensures read { IfErr result (IfRead ⊥) }
     ensures device { IfErr result (IfUnwritten ⊥) }
 {
-    let assembly = read_parts(alloc, bytes)?;
-    Ok(text_of(alloc, &assembly)?)
+    match read_parts(alloc, bytes) {
+        Ok(assembly) => text_of(alloc, &assembly),
+        Err(PartsError::Memory) => Err(BytesFault::Memory),
+        Err(PartsError::Faulty { place, cause }) => Err(BytesFault::Faulty { place, cause }),
+    }
 }
 
-/// The text of spelled journals.
-fn text_of(alloc: Global, assembly: &Assembly) -> Result<Vec<u8>, AllocError>
+/// The text of spelled journals. Nothing but memory may lack.
+fn text_of(alloc: Global, assembly: &Assembly) -> Result<Vec<u8>, BytesFault>
     requires { IsSpelled assembly.now }
-    ensures { IfOk result (λ text. text.items ≡ journal_text assembly.now) }
+    ensures ok { IfOk result (λ text. text.items ≡ journal_text assembly.now) }
+    ensures faulty { IfErr result (IfBytes (λ place cause. ⊥)) }
+    ensures read { IfErr result (IfRead ⊥) }
+    ensures device { IfErr result (IfUnwritten ⊥) }
 {
     let mut text = Vec::new(alloc);
     match write_journal::<(), Vec<u8>>(alloc, assembly, &mut text) {
         Ok(()) => Ok(text),
-        Err(_) => Err(AllocError),
+        Err(_) => Err(BytesFault::Memory),
     }
 }
