@@ -1,16 +1,13 @@
 -- Notes, parts and their bytes are one.
-use Rattle.std.proofs.Common.{◌≡◌, ℕ, zero, suc, ◌+◌, ◌-◌, ◌%◌, ◌^◌, ◌<◌, ◌≤◌, List, [], ◌∷◌, ◌++◌, Option, Some, None, refl, sym, ap, subst, ◌∙◌, append_assoc, arith}
+use Rattle.std.proofs.Common.{◌≡◌, ℕ, zero, suc, ◌+◌, ◌-◌, ◌%◌, ◌^◌, ◌<◌, ◌≤◌, List, [], ◌∷◌, ◌++◌, Option, Some, None, refl, sym, ap, ◌∙◌, append_assoc, arith}
 use Rattle.std.specs.List.{AllByRecursion}
-use Rattle.std.proofs.lemmas.List.{append-nil, map_push}
-use Rattle.std.proofs.lemmas.List.Concat.{flat_map-cons}
-use Rattle.std.proofs.lemmas.Grind.{flat_map-append}
-use Rattle.std.specs.Prelude.{Result, Ok, Err, IfOk, map}
+use Rattle.std.proofs.lemmas.List.{append-nil}
+use Rattle.std.specs.Prelude.{Result, Ok, Err, IfOk}
 use Rattle.base_words.specs.declared.note.Note.{Note}
 use Rattle.text_parts.specs.BadParts.{BadPartsAreRefused}
 use Rattle.text_journal.specs.Fields.{◌>>=◌}
 use Rattle.text_parts.specs.NoteBytes.{wide, short}
 use Rattle.text_parts.specs.ByteNotes.{mode_at, note_at, wide_at, short_at}
-use Rattle.text_parts.specs.declared.part.Part.{Part}
 use Rattle.text_parts.specs.declared.part.PartError.{PartError}
 use Rattle.text_parts.specs.Parts.{PartView, sums_with, sums_behind, sums_of, head_at, notes_at, part_at, part_bytes, GivesPart}
 use Rattle.text_parts.specs.PartLaws.{NoteIsReadBack, OnlyNotesAreRead, PartIsReadBack, OnlyPartsAreRead, SumsTellBytes}

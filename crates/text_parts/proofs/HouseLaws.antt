@@ -1,8 +1,8 @@
 -- Journals of a house and their bytes are one.
-use Rattle.std.proofs.Common.{◌≡◌, ℕ, zero, suc, ◌+◌, ◌-◌, ◌<◌, ◌≤◌, List, [], ◌∷◌, ◌++◌, length, drop, reverse, Result, Ok, Err, refl, sym, ap, subst, ◌∙◌, append_assoc, append-nil, arith}
+use Rattle.std.proofs.Common.{◌≡◌, ℕ, ◌+◌, ◌-◌, ◌≤◌, List, [], ◌∷◌, ◌++◌, length, reverse, Result, Ok, Err, refl, sym, ap, subst, ◌∙◌, append_assoc, append-nil, arith}
 use Rattle.std.specs.Prelude.{All}
 use Rattle.std.specs.List.{AllByRecursion}
-use Rattle.std.proofs.lemmas.List.{drop_at, length-append, length-reverse, reverse-append, reverse-reverse}
+use Rattle.std.proofs.lemmas.List.{length-append, length-reverse, reverse-append, reverse-reverse}
 use Rattle.std.proofs.lemmas.List.Concat.{flat_map-cons}
 use Rattle.std.proofs.lemmas.List.Elements.{All-nil, All-cons}
 use Rattle.std.proofs.lemmas.Grind.{flat_map-append}
@@ -27,7 +27,7 @@ use Rattle.text_parts.proofs.ByteFields.{some_is}
 use Rattle.text_parts.proofs.ByteParts.{part_again}
 use Rattle.text_parts.proofs.HouseLemmas.{house_again}
 use Rattle.text_journal.proofs.Raising.{drafted, StandsFor, stands_cores, stands_cap, stands_burst, stands_itself, stands_next, stands_whole, raised_closed}
-use Rattle.text_journal.proofs.ReadBack.{IsReadable, AreReadable, all_readable, same_parts}
+use Rattle.text_journal.proofs.ReadBack.{AreReadable, all_readable, same_parts}
 
 -- ---- what was written is read
 

@@ -1,5 +1,5 @@
 -- Journals of a house as bytes: what parts make of a draft is spelled, and bytes at fault are no journals.
-use Rattle.std.proofs.Common.{◌≡◌, ℕ, ◌+◌, ◌-◌, ◌<◌, ◌≤◌, ◌^◌, Bool, true, false, cond, ltb, List, [], ◌∷◌, ◌++◌, length, get_or, take, drop, reverse, add-one, Option, Some, None, Ok, Err, refl, sym, ap, subst, ◌∙◌, append_assoc, arith}
+use Rattle.std.proofs.Common.{◌≡◌, ℕ, ◌+◌, ◌-◌, ◌<◌, ◌≤◌, Bool, true, false, cond, ltb, List, [], ◌∷◌, ◌++◌, length, get_or, take, drop, reverse, add-one, Option, Some, None, Ok, refl, sym, ap, subst, ◌∙◌, append_assoc, arith}
 use Rattle.std.specs.Prelude.{All}
 use Rattle.std.proofs.Math.Seq.{take-suc}
 use Rattle.std.specs.Str.{bytes_eq}
@@ -16,8 +16,8 @@ use Rattle.text_parts.specs.NoteBytes.{short}
 use Rattle.text_parts.specs.ByteNotes.{both, pair, byte_at, short_at}
 use Rattle.text_parts.specs.Parts.{PartView, part_at}
 use Rattle.text_journal.specs.Passing.{with_handed}
-use Rattle.text_journal.specs.Raised.{Drafted, assembly_of, raised_to}
-use Rattle.text_parts.proofs.ByteFields.{IsBytes, IsBytes-drop, Takes, IsTaken, both_taken, pair_taken, byte_taken, short_taken, both_again, short_again}
+use Rattle.text_journal.specs.Raised.{Drafted, raised_to}
+use Rattle.text_parts.proofs.ByteFields.{IsBytes, IsBytes-drop, IsTaken, both_taken, pair_taken, byte_taken, short_taken, both_again, short_again}
 use Rattle.text_journal.proofs.DraftLemmas.{passed_count, raised_is}
 use Rattle.text_journal.proofs.OnlyTexts.{assembly_passed, assembly_spelled}
 use Rattle.text_journal.proofs.Options.{same_bytes}

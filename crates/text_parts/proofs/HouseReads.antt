@@ -1,12 +1,12 @@
 -- Bytes are read as no journals but those that their numbers and parts tell.
-use Rattle.std.proofs.Common.{◌≡◌, ℕ, zero, suc, ◌+◌, ◌-◌, ◌≤◌, List, [], ◌∷◌, ◌++◌, length, drop, reverse, refl, sym, ap, subst, ◌∙◌, append_assoc, append-nil, arith}
+use Rattle.std.proofs.Common.{◌≡◌, ℕ, zero, suc, ◌+◌, ◌-◌, List, [], ◌∷◌, ◌++◌, length, reverse, refl, sym, ap, subst, ◌∙◌, append_assoc, append-nil, arith}
 use Rattle.std.proofs.lemmas.List.{drop_at, length-append, length-reverse, reverse-append, reverse-reverse}
 use Rattle.std.proofs.lemmas.List.Concat.{flat_map-cons}
 use Rattle.base_words.specs.Journal.{Journal}
 use Rattle.base_words.specs.declared.note.Note.{Note}
 use Rattle.text_parts.specs.declared.parts.HouseNumbers.{HouseNumbers}
 use Rattle.text_parts.specs.HouseLaws.{parts_bytes, TellNotes, TellJournals, house_of, OnlyJournalsAreRead}
-use Rattle.text_parts.specs.Houses.{house_bytes, house_draft, with_notes, with_part, IsNext, MakeDraft}
+use Rattle.text_parts.specs.Houses.{house_bytes, house_draft, with_part, IsNext, MakeDraft}
 use Rattle.text_parts.specs.Parts.{PartView, part_bytes}
 use Rattle.text_journal.specs.Raised.{Drafted, next_actor, raised, raised_to, all_journals}
 use Rattle.text_parts.proofs.ByteFields.{IsBytes, IsBytes-drop}

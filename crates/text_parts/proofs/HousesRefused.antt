@@ -1,19 +1,18 @@
 -- Small cases of bytes that are no journals of a house: each computes.
-use Rattle.std.proofs.Common.{◌≡◌, ℕ, ◌<◌, ◌≤◌, List, [], ◌∷◌, refl, ap, arith}
+use Rattle.std.proofs.Common.{◌≡◌, ℕ, ◌<◌, List, [], ◌∷◌, refl, ap, arith}
 use Rattle.std.specs.Prelude.{All}
 use Rattle.std.proofs.lemmas.List.Elements.{All-nil, All-cons, All-head}
 use Rattle.base_words.specs.Spelled.{IsSpelledNote}
-use Rattle.base_words.specs.declared.note.Note.{Note}
 use Rattle.base_words.specs.declared.note.Note.TheVariants.{CoreClosed}
 use Rattle.base_words.specs.declared.order.Mode.TheVariants.{Finish, Return}
 use Rattle.text_parts.specs.BadHouses.{BadHousesAreRefused, one_core, later, outside}
 use Rattle.text_parts.specs.BadParts.{closing, two_closes}
 use Rattle.text_parts.specs.declared.parts.HouseNumbers.{HouseNumbers}
 use Rattle.text_parts.proofs.ByteFields.{some_is}
-use Rattle.text_parts.specs.Houses.{Fits, house_at, house_draft, with_part, IsHouse, IsNext}
+use Rattle.text_parts.specs.Houses.{house_at, house_draft, with_part, IsHouse, IsNext}
 use Rattle.text_parts.specs.NoteBytes.{short, wide}
 use Rattle.text_parts.specs.ByteNotes.{mode_at, note_at, short_at, wide_at}
-use Rattle.text_parts.specs.Parts.{PartView, head_at, notes_at, part_at, part_bytes, sums_behind}
+use Rattle.text_parts.specs.Parts.{head_at, notes_at, part_at, part_bytes, sums_behind}
 
 within : IsHouse one_core
 within = record { some_core = omega arith; few_cores = omega arith; some_place = omega arith; few_places = omega arith; some_poll = omega arith; few_polls = omega arith }

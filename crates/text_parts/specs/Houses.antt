@@ -5,7 +5,6 @@ use Rattle.base_words.specs.Assembly.{Assembly}
 use Rattle.base_words.specs.declared.note.Note.{Note}
 use Rattle.base_words.specs.Limits.{most_notes}
 use Rattle.base_words.specs.Spelled.{IsSpelled, IsSpelledNote, IsWithinLimits}
-use Rattle.base_words.specs.Terms.{Terms}
 use Rattle.text_parts.specs.declared.parts.HouseNumbers.{HouseNumbers}
 use Rattle.text_parts.specs.declared.parts.PartsCause.{PartsCause}
 use Rattle.text_parts.specs.declared.parts.PartsCause.TheVariants as cause

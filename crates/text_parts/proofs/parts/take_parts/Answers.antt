@@ -1,4 +1,4 @@
-use Rattle.std.proofs.Common.{List, [], ◌∷◌, ◌++◌, arith, subst, sym, ap}
+use Rattle.std.proofs.Common.{[], ◌∷◌, ◌++◌, arith, subst, sym, ap}
 use Rattle.text_journal.specs.Drafts.{Drafted}
 use Rattle.text_journal.specs.Handed.{IsBegun}
 use Rattle.text_parts.specs.Houses.{MakeDraft}
