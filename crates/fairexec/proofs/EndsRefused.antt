@@ -1,5 +1,5 @@
 -- Each wrong answer and each wrong end is refused.
-use Rattle.std.proofs.Common.{◌≡◌, inl, inr, [], ◌∷◌, ℕ, List, Some, None, Ok, Err, true, false, refl, sym, ap, arith, codes}
+use Rattle.std.proofs.Common.{◌≡◌, inl, inr, [], ◌∷◌, ℕ, List, Some, None, Ok, Err, IfOk, true, false, refl, sym, ap, arith, codes}
 use Rattle.clap.specs.Kinds.{IsAmong}
 use Rattle.clap.specs.declared.error.kind.ErrorKind.{ErrorKind}
 use Rattle.clap.specs.declared.error.kind.ErrorKind.TheVariants.{DisplayHelp, UnknownArgument}
@@ -16,12 +16,19 @@ use Rattle.fairexec_script.specs.Faults.{status_of as threads_status}
 use Rattle.fairexec_script.specs.declared.fault.ThreadsFault.TheVariants.{Of, Thread}
 use Rattle.judge_audit.specs.declared.judge.Verdict.{Verdict}
 use Rattle.judge_audit.specs.declared.judge.Verdict.TheVariants.{Sound, Fault}
+use Rattle.text_parts.specs.Faults.{bytes_status}
+use Rattle.text_parts.specs.Houses.{house_at}
+use Rattle.text_parts.specs.Wholes.{MakesText}
+use Rattle.text_parts.specs.declared.fault.BytesFault.{BytesFault}
+use Rattle.text_parts.specs.declared.fault.BytesFault.TheVariants as bytes
+use Rattle.text_parts.specs.declared.parts.HouseNumbers.{HouseNumbers}
 use Rattle.text_words.specs.Statuses.{status_of}
 use Rattle.text_words.specs.declared.fault.Fault.TheVariants.{Text, Read, Write, Memory}
 use Rattle.text_words.specs.declared.status.Status.{Status}
 use Rattle.text_words.specs.declared.status.Status.TheVariants as status
-use Rattle.fairexec.specs.Answers.{RunAnswer, ThreadsAnswer}
-use Rattle.fairexec.specs.BadEnds.{EndsAreRefused, EndsIn, RunIn, ThreadsIn}
+use Rattle.fairexec.proofs.BytesLemmas.{no_bytes_found, none_found}
+use Rattle.fairexec.specs.Answers.{HasPrinted, RunAnswer, ThreadsAnswer}
+use Rattle.fairexec.specs.BadEnds.{EndsAreRefused, EndsIn, RunIn, ThreadsIn, list_writes}
 use Rattle.fairexec.specs.Ends.{EndsBy, status_unasked}
 use Rattle.fairexec.specs.Files.{IsUnopened, IsUnopenedScript}
 
@@ -90,41 +97,34 @@ unfolding house_at
 no_house house behind is = cc
 
 no_text : (all : List ℕ) → MakesText all [] → ⊥
-no_text all makes = no_house _ _ makes.2.0.1.numbers
+no_text all makes = no_house _ _ makes.2.1.numbers
 
--- a refusal isn't done, and isn't status 1
+-- a refusal isn't done
 not_done_by : (why : BytesFault) → status.Done ≡ bytes_status why → ⊥
 not_done_by (bytes.Faulty place cause) is = cc
 not_done_by bytes.Read is = cc
 not_done_by bytes.Write is = cc
 not_done_by bytes.Memory is = cc
 
-not_found_by : (why : BytesFault) → status.FaultFound ≡ bytes_status why → ⊥
-not_found_by (bytes.Faulty place cause) is = cc
-not_found_by bytes.Read is = cc
-not_found_by bytes.Write is = cc
-not_found_by bytes.Memory is = cc
+unjudged : (left old new : List ℕ) → EndsIn [] left old new None (Audit true) status.Done → ⊥
+unjudged left old new (inl ended) = no_text ended.0 ended.1.told
+unjudged left old new (inr refused) = not_done_by refused.0 refused.2
 
-module _ (left old new : List ℕ) where
-  no_bytes : (ends : List ℕ → Status → Type 0) → InBytes [] left old new ends status.Done → ⊥
-  no_bytes ends (inl ended) = no_text ended.0 ended.1.told
-  no_bytes ends (inr refused) = not_done_by refused.0 refused.2
+unprinted : (left old new : List ℕ) → EndsIn [] left old new None Journal status.Done → ⊥
+unprinted left old new (inl ended) = no_text ended.0 ended.1.told
+unprinted left old new (inr refused) = not_done_by refused.0 refused.2
 
 printed : (left : List ℕ) (result : Status) → EndsIn [] left [] (codes "x") None Journal result → ⊥
 printed left result (inl ended) = no_text ended.0 ended.1.told
 printed left result (inr refused) = cc refused.3
 
-print_found : (all old new : List ℕ) (answer : RunAnswer) → status.FaultFound ≡ status_of answer → HasPrinted list_writes all old new answer → ⊥
-print_found all old new (Ok true) is printed = cc
-print_found all old new (Ok false) is printed = cc printed.done.0
-print_found all old new (Err (Text line cause)) is printed = cc
-print_found all old new (Err Read) is printed = cc
-print_found all old new (Err Write) is printed = cc
-print_found all old new (Err Memory) is printed = cc
+is_done : (all old new : List ℕ) (answer : RunAnswer) → HasPrinted list_writes all old new answer → IfOk answer (λ done. done ≡ true)
+is_done all old new (Ok done) printed = printed.done.0
+is_done all old new (Err fault) printed = tt
 
 text_found : (source left old new : List ℕ) → EndsIn source left old new None Journal status.FaultFound → ⊥
-text_found source left old new (inl ended) = print_found ended.0 old new ended.2.0 ended.2.1 ended.2.2
-text_found source left old new (inr refused) = not_found_by refused.0 refused.2
+text_found source left old new (inl ended) = none_found ended.2.0 (is_done ended.0 old new ended.2.0 ended.2.2) (sym ended.2.1)
+text_found source left old new (inr refused) = no_bytes_found refused.0 (sym refused.2)
 
 -- a mistake of the words is no call for help, and a call for help is no mistake
 told_mistake : (kind : ErrorKind) → IsAmong kind (UnknownArgument ∷ []) → IsTold kind → ⊥
@@ -168,10 +168,10 @@ ends_refused = record {
   unopened_script = unopened_script;
   run_finds_a_fault = λ source left old new ends. run_found source left old new ends.0 ends.1 ends.2;
   threads_find_a_fault = λ source left old new ends. threads_found source left old new ends.0 ends.1 ends.2;
-  no_bytes_are_judged = λ left old new ends. no_bytes _ left old new ends;
-  no_bytes_have_a_text = λ left old new ends. no_bytes _ left old new ends;
+  no_bytes_are_judged = unjudged;
+  no_bytes_have_a_text = unprinted;
   faulty_bytes_are_printed = printed;
-  text_is_a_fault = λ source left old new ends. text_found source left old new ends;
+  text_is_a_fault = text_found;
   mistake_is_done = λ ends. mistake_ends ends.why ends.reason ends.ended;
   help_is_refused = λ ends. help_ends ends.why ends.reason ends.ended;
   nothing_is_done = not_done;

@@ -254,7 +254,8 @@ fn text_of<R: ReadOnlyFiles + AllocGlobal, I: Source>(
 
 /// Prints a text.
 fn print<S: ByteSink>(text: &[u8], output: &mut S) -> Result<bool, Fault<Cause>>
-    ensures { HasPrinted S.ByteSink text.now output.old output.new result }
+    ensures printed { HasPrinted S.ByteSink text.now output.old output.new result }
+    ensures done { IfOk result (λ done. done ≡ true) }
 {
     match write_whole(text, output) {
         Ok(()) => Ok(true),

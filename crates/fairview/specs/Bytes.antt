@@ -46,7 +46,7 @@ module _ {R F S : Type 0} (devices : Devices R F S) (at : Passed R S) where
   abbrev pub ShowsBytes : Option (List ℕ) → View → Status → Type 0
   ShowsBytes path view result =
       ((all : List ℕ) × HasText devices.source devices.file at.source_old at.source_new path all
-        × (answer : Answer) × (result ≡ status_of answer) × HasShown devices.sink view (Some all) at.sink_old at.sink_new answer × IfErr answer (text.IfRead ⊥))
+      × (answer : Answer) × (result ≡ status_of answer) × HasShown devices.sink view (Some all) at.sink_old at.sink_new answer × IfErr answer (text.IfRead ⊥))
       ⊎ ((why : BytesFault) × HasNoText devices.source devices.file at.source_old at.source_new path why × (result ≡ bytes_status why) × (at.sink_new ≡ at.sink_old))
 
   -- what is shown of a text, or of journals that are bytes; the status is that of an answer, which tells what was shown

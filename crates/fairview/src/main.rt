@@ -94,7 +94,7 @@ fn done<C: Eprint, R: ReadOnlyFiles + AllocGlobal, I: Source, S: ByteSink>(
 ) -> Status
     ensures ends { EndsFor
         (EndsShown (record { source = I.Source; file = R.File.remaining; sink = S.ByteSink }) (record { source_old = input.old; source_new = input.new; sink_old = output.old; sink_new = output.new })
-            request.entry.bytes (option_map (λ path. path.now) file.entry))
+        request.entry.bytes (option_map (λ path. path.now) file.entry))
         ((input.new ≡ input.old) × (output.new ≡ output.old)) (view_asked (what_told request.entry.what)) result }
     ensures never { result ≢ status.FaultFound }
 {

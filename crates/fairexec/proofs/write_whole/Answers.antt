@@ -16,4 +16,4 @@ pub returns-clause-err : goal.returns-clause-err
 returns-clause-err g c = OnErr-any c.flush.result (front_of_all _ _ c.args.text.now (Appends-more_kept _ _ _ c.args.text.now c.in_ok-write_all.ensures.ok c.flush.ensures.kept))
 
 pub returns-clause-failed : goal.returns-clause-failed
-returns-clause-failed g c = failed_last g.S.ByteSink.tries g.S.ByteSink.interrupts g.S.ByteSink.fails c.args.output.now c.write_all.new.output c.flush.new.output c.flush.result c.write_all.ensures.tried c.flush.ensures.failed
+returns-clause-failed g c = failed_last g.S.ByteSink.tries g.S.ByteSink.interrupts g.S.ByteSink.fails c.args.output.now c.write_all.new.sink c.flush.new.sink c.flush.result c.write_all.ensures.tried c.flush.ensures.failed

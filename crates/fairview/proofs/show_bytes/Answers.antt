@@ -1,6 +1,7 @@
-use Rattle.std.proofs.Common.{None, inl, inr, refl}
+use Rattle.std.proofs.Common.{◌∙◌, None, Some, inl, inr, refl, subst}
 use Rattle.std.proofs.lemmas.Result.{IfErr-weaker}
 use Rattle.fairview.proofs.EndLemmas.{never_read, no_bytes_found, no_fault_found}
+use Rattle.fairview.specs.Answers.{HasShown}
 use Rattle.fairview.proofs.show_bytes.Goals as goal
 
 pub returns-in-Ok-clause-shows : goal.returns-in-Ok-clause-shows
@@ -11,15 +12,16 @@ returns-in-Ok-clause-shows g c =
       c.in-Ok.ensures.text,
       shown.result,
       c.ended.ensures,
-      record {
-        done = shown.ensures.done;
-        faulty = shown.ensures.faulty;
-        coreless = shown.ensures.coreless;
-        silent = shown.ensures.silent;
-        unwritten = shown.ensures.unwritten;
-        failed = shown.ensures.failed;
-      },
-      IfErr-weaker shown.result _ _ (λ why. never_read (λ source. None) _ _ why) shown.ensures.unread,
+      subst (λ all. HasShown g.S.ByteSink c.args.view (Some all) c.args.output.now shown.new.sink shown.result) (c.of.ensures ∙ c.deref.ensures.value)
+          (record {
+            done = shown.ensures.done;
+            faulty = shown.ensures.faulty;
+            coreless = shown.ensures.coreless;
+            silent = shown.ensures.silent;
+            unwritten = shown.ensures.unwritten;
+            failed = shown.ensures.failed;
+          }),
+      IfErr-weaker shown.result _ _ (λ why. never_read (λ source. None) shown.new.source shown.new.source why) shown.ensures.unread,
     )
 
 pub returns-in-Ok-clause-never : goal.returns-in-Ok-clause-never
