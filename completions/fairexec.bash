@@ -22,7 +22,7 @@ _fairexec() {
     local word=${COMP_WORDS[COMP_CWORD]} place
     COMPREPLY=()
     if [ "$COMP_CWORD" -le 1 ]; then
-        _fairexec_words "$word" 'run threads audit help --help --version -h -V'
+        _fairexec_words "$word" 'run threads audit journal help --help --version -h -V'
         return
     fi
     # Behind `--` stands a file, whatever its name is.
@@ -35,9 +35,10 @@ _fairexec() {
     case ${COMP_WORDS[1]}/$word in
         run/-*) _fairexec_words "$word" '--journal --stats --help -h' ;;
         threads/-*) _fairexec_words "$word" '--journal --stats --help -h' ;;
-        audit/-*) _fairexec_words "$word" '--help -h' ;;
-        run/* | threads/* | audit/*) _fairexec_files "$word" ;;
-        help/*) _fairexec_words "$word" 'run threads audit help' ;;
+        audit/-*) _fairexec_words "$word" '--bytes --help -h' ;;
+        journal/-*) _fairexec_words "$word" '--text --help -h' ;;
+        run/* | threads/* | audit/* | journal/*) _fairexec_files "$word" ;;
+        help/*) _fairexec_words "$word" 'run threads audit journal help' ;;
     esac
 }
 

@@ -7,6 +7,7 @@ complete -c fairexec -f
 complete -c fairexec -n __fish_use_subcommand -a run -d 'Run a script, and print what happens as notes'
 complete -c fairexec -n __fish_use_subcommand -a threads -d 'Run a script on threads, and print the outcome of each order and the verdict'
 complete -c fairexec -n __fish_use_subcommand -a audit -d 'Judge journals, and print whether they are sound or their first fault'
+complete -c fairexec -n __fish_use_subcommand -a journal -d 'Read journals as bytes, and print their text'
 complete -c fairexec -n __fish_use_subcommand -a help -d 'Print the help of the program or of a command'
 complete -c fairexec -n __fish_use_subcommand -s h -l help -d 'Print help'
 complete -c fairexec -n __fish_use_subcommand -s V -l version -d 'Print version'
@@ -21,7 +22,12 @@ complete -c fairexec -n '__fish_seen_subcommand_from threads' -l stats -d 'Print
 complete -c fairexec -n '__fish_seen_subcommand_from threads' -s h -l help -d 'Print help'
 complete -c fairexec -n '__fish_seen_subcommand_from threads' -F
 
+complete -c fairexec -n '__fish_seen_subcommand_from audit' -l bytes -d 'Read the journals as bytes'
 complete -c fairexec -n '__fish_seen_subcommand_from audit' -s h -l help -d 'Print help'
 complete -c fairexec -n '__fish_seen_subcommand_from audit' -F
 
-complete -c fairexec -n '__fish_seen_subcommand_from help' -a 'run threads audit help'
+complete -c fairexec -n '__fish_seen_subcommand_from journal' -l text -d 'Print the text of the journals'
+complete -c fairexec -n '__fish_seen_subcommand_from journal' -s h -l help -d 'Print help'
+complete -c fairexec -n '__fish_seen_subcommand_from journal' -F
+
+complete -c fairexec -n '__fish_seen_subcommand_from help' -a 'run threads audit journal help'

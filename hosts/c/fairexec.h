@@ -504,7 +504,7 @@ uint32_t fx_seat_copy(fx_seat *seat, uint64_t from, uint64_t most, uint8_t *byte
  * the actor came before the one at `from`: those that it forgot or passed on, and `from`. The host counts them, and who reads the parts finds
  * whether one is missing. Of `most` notes a part has at most 45 + 27 * most bytes, of none 45.
  * The bytes `fxh1`, the count of the cores, the burst and the places (1, 1 and 2 bytes, the low one first), and behind them all parts of core 0, those
- * of each further actor by its number, each actor's in their order, are the whole journals. The library text_journal reads them, and no program does yet.
+ * of each further actor by its number, each actor's in their order, are the whole journals. `fairexec audit --bytes`, `fairexec journal --text` and fairview read them.
  * FX_EMPTY; FX_NO_MEMORY; FX_SHORT, as fx_seat_copy; FX_OK.
  */
 uint32_t fx_seat_copy_bytes(fx_seat *seat, uint64_t before, uint64_t from, uint64_t most, uint8_t *bytes, size_t room, uint64_t *count, uint64_t *notes) FX_NOT_NULL;

@@ -1,6 +1,10 @@
-"""Parts of a journal as bytes, once more: the lines of notes as bytes, and bytes as lines. It shares nothing with the library."""
+"""Parts of a journal as bytes, once more: the lines of notes as bytes, and bytes as lines. It shares nothing with the library.
+
+  parts.py MOST   writes the bytes of the journals whose text stands on standard input, in parts of at most so many notes
+"""
 import re
 import struct
+import sys
 
 KINDS = "sent took back answered queue shares closed coreclosed woken pick start resume yield park stayed done returned turned shut collected redeemed detached".split()
 ORDERS = "job create shares close closecore wake".split()
@@ -127,3 +131,20 @@ def text_of(data):
         lines += [f"{actor} {note}" for note in notes]
     tail = f" burst {burst}" if burst > 1 else ""
     return "\n".join([f"journal {1 if burst == 1 else 2}", f"cores {cores} cap {cap}{tail}", *lines, "end", ""])
+
+
+def bytes_of(text, most):
+    """The bytes of the text of journals: a head, and the notes of each actor in parts of at most so many."""
+    _, house, *lines, _ = text.splitlines()
+    words = house.split()
+    numbers = {"burst": 1, **dict(zip(words[::2], map(int, words[1::2])))}
+    notes = [[] for _ in range(numbers["cores"] + 1)]
+    for line in lines:
+        actor, note = line.split(" ", 1)
+        notes[int(actor)].append(note)
+    parts = (part_of(actor, at, those[at : at + most]) for actor, those in enumerate(notes) for at in range(0, len(those), most))
+    return b"fxh1" + struct.pack("<BBH", numbers["cores"], numbers["burst"], numbers["cap"]) + b"".join(parts)
+
+
+if __name__ == "__main__":
+    sys.stdout.buffer.write(bytes_of(sys.stdin.read(), int(sys.argv[1])))

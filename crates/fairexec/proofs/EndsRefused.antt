@@ -1,5 +1,5 @@
 -- Each wrong answer and each wrong end is refused.
-use Rattle.std.proofs.Common.{◌≡◌, inl, inr, [], ◌∷◌, ℕ, List, Some, None, Ok, Err, true, false, refl, sym, ap, arith, codes}
+use Rattle.std.proofs.Common.{◌≡◌, inl, inr, [], ◌∷◌, ℕ, List, Some, None, Ok, Err, IfOk, true, false, refl, sym, ap, arith, codes}
 use Rattle.clap.specs.Kinds.{IsAmong}
 use Rattle.clap.specs.declared.error.kind.ErrorKind.{ErrorKind}
 use Rattle.clap.specs.declared.error.kind.ErrorKind.TheVariants.{DisplayHelp, UnknownArgument}
@@ -7,7 +7,7 @@ use Rattle.fair_args.specs.Refusals.{IsReason, IsTold, IsWrong}
 use Rattle.fair_args.specs.declared.unasked.Unasked.{Unasked}
 use Rattle.fair_args.specs.declared.unasked.Unasked.TheVariants as unasked
 use Rattle.fairexec_args.specs.declared.asked.What.{What}
-use Rattle.fairexec_args.specs.declared.asked.What.TheVariants.{Run, Threads, Audit}
+use Rattle.fairexec_args.specs.declared.asked.What.TheVariants.{Run, Threads, Audit, Journal}
 use Rattle.fairexec_report.proofs.TextsRefused.{texts_refused}
 use Rattle.fairexec_report.specs.VerdictTexts.{is_sound, verdict_text}
 use Rattle.fairexec_run.proofs.OutputsRefused.{outputs_refused}
@@ -16,12 +16,19 @@ use Rattle.fairexec_script.specs.Faults.{status_of as threads_status}
 use Rattle.fairexec_script.specs.declared.fault.ThreadsFault.TheVariants.{Of, Thread}
 use Rattle.judge_audit.specs.declared.judge.Verdict.{Verdict}
 use Rattle.judge_audit.specs.declared.judge.Verdict.TheVariants.{Sound, Fault}
+use Rattle.text_parts.specs.Faults.{bytes_status}
+use Rattle.text_parts.specs.Houses.{house_at}
+use Rattle.text_parts.specs.Wholes.{MakesText}
+use Rattle.text_parts.specs.declared.fault.BytesFault.{BytesFault}
+use Rattle.text_parts.specs.declared.fault.BytesFault.TheVariants as bytes
+use Rattle.text_parts.specs.declared.parts.HouseNumbers.{HouseNumbers}
 use Rattle.text_words.specs.Statuses.{status_of}
 use Rattle.text_words.specs.declared.fault.Fault.TheVariants.{Text, Read, Write, Memory}
 use Rattle.text_words.specs.declared.status.Status.{Status}
 use Rattle.text_words.specs.declared.status.Status.TheVariants as status
-use Rattle.fairexec.specs.Answers.{RunAnswer, ThreadsAnswer}
-use Rattle.fairexec.specs.BadEnds.{EndsAreRefused, EndsIn, RunIn, ThreadsIn}
+use Rattle.fairexec.proofs.BytesLemmas.{no_bytes_found, none_found}
+use Rattle.fairexec.specs.Answers.{HasPrinted, RunAnswer, ThreadsAnswer}
+use Rattle.fairexec.specs.BadEnds.{EndsAreRefused, EndsIn, RunIn, ThreadsIn, list_writes}
 use Rattle.fairexec.specs.Ends.{EndsBy, status_unasked}
 use Rattle.fairexec.specs.Files.{IsUnopened, IsUnopenedScript}
 
@@ -51,7 +58,11 @@ turned_back (Fault actor line rule) answered is = cc
 stays : (what : What) (old new : List ℕ) (result : Status) → EndsIn (1 ∷ []) [] old new (Some (codes "a")) what result → ⊥
 stays (Run journal stats) old new result ends = cc ends.2.1
 stays (Threads journal stats) old new result ends = cc ends.2.1
-stays Audit old new result ends = cc ends.2.1
+stays (Audit false) old new result ends = cc ends.2.1
+stays (Audit true) old new result (inl ends) = cc ends.1.1
+stays (Audit true) old new result (inr ends) = cc ends.1.1
+stays Journal old new result (inl ends) = cc ends.1.1
+stays Journal old new result (inr ends) = cc ends.1.1
 
 -- a file that isn't opened isn't done
 unopened : {C : Type 0} → IsUnopened {C = C} (Ok true) → ⊥
@@ -80,6 +91,41 @@ threads_found source left old new (Err (Of Write)) is run = cc
 threads_found source left old new (Err (Of Memory)) is run = cc
 threads_found source left old new (Err Thread) is run = cc
 
+-- no bytes are journals
+no_house : (house : HouseNumbers) (behind : List ℕ) → house_at [] ≡ Some (house, behind) → ⊥
+unfolding house_at
+no_house house behind is = cc
+
+no_text : (all : List ℕ) → MakesText all [] → ⊥
+no_text all makes = no_house _ _ makes.2.1.numbers
+
+-- a refusal isn't done
+not_done_by : (why : BytesFault) → status.Done ≡ bytes_status why → ⊥
+not_done_by (bytes.Faulty place cause) is = cc
+not_done_by bytes.Read is = cc
+not_done_by bytes.Write is = cc
+not_done_by bytes.Memory is = cc
+
+unjudged : (left old new : List ℕ) → EndsIn [] left old new None (Audit true) status.Done → ⊥
+unjudged left old new (inl ended) = no_text ended.0 ended.1.told
+unjudged left old new (inr refused) = not_done_by refused.0 refused.2
+
+unprinted : (left old new : List ℕ) → EndsIn [] left old new None Journal status.Done → ⊥
+unprinted left old new (inl ended) = no_text ended.0 ended.1.told
+unprinted left old new (inr refused) = not_done_by refused.0 refused.2
+
+printed : (left : List ℕ) (result : Status) → EndsIn [] left [] (codes "x") None Journal result → ⊥
+printed left result (inl ended) = no_text ended.0 ended.1.told
+printed left result (inr refused) = cc refused.3
+
+is_done : (all old new : List ℕ) (answer : RunAnswer) → HasPrinted list_writes all old new answer → IfOk answer (λ done. done ≡ true)
+is_done all old new (Ok done) printed = printed.done.0
+is_done all old new (Err fault) printed = tt
+
+text_found : (source left old new : List ℕ) → EndsIn source left old new None Journal status.FaultFound → ⊥
+text_found source left old new (inl ended) = none_found ended.2.0 (is_done ended.0 old new ended.2.0 ended.2.2) (sym ended.2.1)
+text_found source left old new (inr refused) = no_bytes_found refused.0 (sym refused.2)
+
 -- a mistake of the words is no call for help, and a call for help is no mistake
 told_mistake : (kind : ErrorKind) → IsAmong kind (UnknownArgument ∷ []) → IsTold kind → ⊥
 told_mistake kind (inl is) (inl help) = cc
@@ -102,7 +148,7 @@ help_ends unasked.Mistake reason is = wrong_help reason.0 reason.1 reason.2
 help_ends unasked.Write reason is = cc
 help_ends unasked.Memory reason is = cc
 
-not_done : EndsBy (λ file what result. ⊥) (Unit {0}) [] (Some (Audit, None)) status.Done → ⊥
+not_done : EndsBy (λ file what result. ⊥) (Unit {0}) [] (Some (Audit false, None)) status.Done → ⊥
 not_done (inl ends) = absurd ends
 not_done (inr memory) = cc memory.0
 
@@ -113,15 +159,19 @@ ends_refused = record {
   run_is_faulty = λ source left old new run. cc run.done.0;
   threads_are_faulty = λ source left old new run. cc run.sound;
   written_without_threads = λ source left run. cc run.silent;
-  no_verdict = λ source left judged. written judged.done.verdict judged.done.appends;
-  empty_is_sound = λ left old new judged. texts_refused.empty (judged.sound refl);
-  sound_is_a_fault = λ source left judged. turned judged.done.verdict judged.done.answered judged.done.appends;
-  fault_is_sound = λ source left judged. turned_back judged.done.verdict judged.done.answered judged.done.appends;
+  no_verdict = λ source left judged. written judged.text.done.verdict judged.text.done.appends;
+  empty_is_sound = λ left old new judged. texts_refused.empty (judged.text.sound refl);
+  sound_is_a_fault = λ source left judged. turned judged.text.done.verdict judged.text.done.answered judged.text.done.appends;
+  fault_is_sound = λ source left judged. turned_back judged.text.done.verdict judged.text.done.answered judged.text.done.appends;
   input_is_read = stays;
   unopened = unopened;
   unopened_script = unopened_script;
   run_finds_a_fault = λ source left old new ends. run_found source left old new ends.0 ends.1 ends.2;
   threads_find_a_fault = λ source left old new ends. threads_found source left old new ends.0 ends.1 ends.2;
+  no_bytes_are_judged = unjudged;
+  no_bytes_have_a_text = unprinted;
+  faulty_bytes_are_printed = printed;
+  text_is_a_fault = text_found;
   mistake_is_done = λ ends. mistake_ends ends.why ends.reason ends.ended;
   help_is_refused = λ ends. help_ends ends.why ends.reason ends.ended;
   nothing_is_done = not_done;

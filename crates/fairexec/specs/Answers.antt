@@ -1,6 +1,6 @@
 -- What an answer tells of the source that was read, and of what was written.
 use Rattle.std.specs.Prelude.{◌≡◌, ℕ, Bool, true, List, Option, None, Result, Ok, Err, IfErr, IfOk, IfSome}
-use Rattle.std.specs.Io.KnownBytes.{Keeps}
+use Rattle.std.specs.Io.KnownBytes.{Appends, Keeps}
 use Rattle.fairexec_report.specs.Audits as audits
 use Rattle.fairexec_run.specs.Begun as cut
 use Rattle.fairexec_run.specs.Outputs.{IsDone, TellsScript}
@@ -13,6 +13,7 @@ use Rattle.fairexec_script.specs.ThreadsScripts as threads_scripts
 use Rattle.fairexec_script.specs.declared.fault.ThreadsFault.{ThreadsFault}
 use Rattle.text_journal.specs.Drafts as journal
 use Rattle.text_journal.specs.JournalTexts as journals
+use Rattle.text_journal.specs.Pages.{AppendsFront}
 use Rattle.text_journal.specs.declared.fault.JournalCause.{JournalCause}
 use Rattle.text_bytes.specs.Taking.{IsPrompt, IsToldByRead}
 use Rattle.text_bytes.specs.Tries.{HasFailedSince}
@@ -21,6 +22,7 @@ use Rattle.text_bytes.specs.declared.source.Source as reading
 use Rattle.text_words.specs.Faults.{IfEnded, IfRead, IfText, IfUnjudged, IfUnread, IfUnwritten}
 use Rattle.text_words.specs.declared.fault.Cause.{Cause}
 use Rattle.text_words.specs.declared.fault.Fault.{Fault}
+use Rattle.text_words.specs.declared.fault.Fault.TheVariants.{Write}
 
 -- a file of which the bytes that are left are known, if they are, and nothing else of its reads
 abbrev pub file_reads : {F : Type 0} → (F → Option (List ℕ)) → reading.Ghosts F
@@ -42,6 +44,21 @@ ThreadsAnswer = Result Bool ThreadsFault
 
 abbrev pub AuditAnswer : Type 0
 AuditAnswer = Result Bool (Fault JournalCause)
+
+module _ {S : Type 0} (sink : writing.Ghosts S) where
+  -- this text of journals, if it is known, was judged, and the verdict is written; or the answer tells why not
+  pub record HasJudgedText (text : Option (List ℕ)) (old new : S) (answer : AuditAnswer) : Type 0 where
+    pub done : IfOk answer (audits.IsAudited text (sink.contents old) (sink.contents new))
+    pub sound : answer ≡ Ok true → audits.TellsSound text
+    pub faulty : IfErr answer (IfText (λ fault. IfSome text (λ all. journals.journals_of all ≡ Err fault)))
+    pub silent : IfErr answer (IfUnjudged (Keeps (sink.contents old) (sink.contents new)))
+    pub unwritten : IfErr answer (IfUnwritten (audits.IsCutShort text (sink.contents old) (sink.contents new)))
+    pub failed : IfErr answer (IfUnwritten (HasFailedSince sink.tries sink.interrupts sink.fails old new))
+
+  -- this text is written; or a write failed, and a first part of it is written
+  pub record HasPrinted (text : List ℕ) (old new : S) (answer : RunAnswer) : Type 0 where
+    pub done : IfOk answer (λ done. (done ≡ true) × Appends (sink.contents old) (sink.contents new) text)
+    pub failed : IfErr answer (λ fault. (fault ≡ Write) × AppendsFront (sink.contents old) (sink.contents new) text × HasFailedSince sink.tries sink.interrupts sink.fails old new)
 
 module _ {R S : Type 0} (source : reading.Ghosts R) (sink : writing.Ghosts S) where
   -- A script was read and run on the model, and what is asked for is written; or the answer tells why not. This is what `run_script` answers.
@@ -68,14 +85,9 @@ module _ {R S : Type 0} (source : reading.Ghosts R) (sink : writing.Ghosts S) wh
     pub unwritten : IfErr answer (IfOf (IfUnwritten (runs.IsCutShort with_journal with_stats (source.remaining at.source_old) (sink.contents at.sink_old) (sink.contents at.sink_new))))
     pub failed : IfErr answer (IfOf (IfUnwritten (HasFailedSince sink.tries sink.interrupts sink.fails at.sink_old at.sink_new)))
 
-  -- Journals were read and judged, and the verdict is written; or the answer tells why not. This is what `audit_text` answers.
+  -- Journals were read, and their text judged; or the answer tells why not. This is what `audit_text` answers.
   pub record HasJudged (at : Passed R S) (answer : AuditAnswer) : Type 0 where
-    pub done : IfOk answer (audits.IsAudited (source.remaining at.source_old) (sink.contents at.sink_old) (sink.contents at.sink_new))
-    pub sound : answer ≡ Ok true → audits.TellsSound (source.remaining at.source_old)
-    pub faulty : IfErr answer (IfText (λ fault. IfSome (source.remaining at.source_old) (λ text. journals.journals_of text ≡ Err fault)))
+    pub text : HasJudgedText sink (source.remaining at.source_old) at.sink_old at.sink_new answer
     pub prompt : IfErr answer (IsPrompt journals.judge journal.empty_draft (source.remaining at.source_old) (source.remaining at.source_new))
     pub at_once : IfErr answer (IfText (λ fault. IsToldByRead journals.judge journal.empty_draft source.remaining source.tries source.reads source.interrupts at.source_old at.source_new))
     pub unread : IfErr answer (IfRead (HasFailedSince source.tries source.interrupts source.fails at.source_old at.source_new))
-    pub silent : IfErr answer (IfUnjudged (Keeps (sink.contents at.sink_old) (sink.contents at.sink_new)))
-    pub unwritten : IfErr answer (IfUnwritten (audits.IsCutShort (source.remaining at.source_old) (sink.contents at.sink_old) (sink.contents at.sink_new)))
-    pub failed : IfErr answer (IfUnwritten (HasFailedSince sink.tries sink.interrupts sink.fails at.sink_old at.sink_new))

@@ -2,7 +2,7 @@
 use Rattle.std.specs.Prelude.{[], ◌∷◌, ℕ, true, false, List, Option, Some, None, Ok, Err, codes}
 use Rattle.clap.specs.declared.error.kind.ErrorKind.TheVariants.{DisplayHelp, UnknownArgument}
 use Rattle.fairexec_args.specs.declared.asked.What.{What}
-use Rattle.fairexec_args.specs.declared.asked.What.TheVariants.{Run, Threads, Audit}
+use Rattle.fairexec_args.specs.declared.asked.What.TheVariants.{Run, Threads, Audit, Journal}
 use Rattle.fairexec_script.specs.declared.fault.ThreadsFault.TheVariants.{Thread}
 use Rattle.text_bytes.specs.declared.sink.ByteSink as writing
 use Rattle.text_journal.specs.declared.fault.JournalCause.{JournalCause}
@@ -61,8 +61,14 @@ pub record EndsAreRefused : Type 0 where
   -- a run ends with status 1, on the model and on threads
   pub run_finds_a_fault : (source left old new : List ℕ) → EndsIn source left old new None (Run false false) status.FaultFound → ⊥
   pub threads_find_a_fault : (source left old new : List ℕ) → EndsIn source left old new None (Threads false false) status.FaultFound → ⊥
+  -- no bytes are journals, and they are judged, or have a text; or something is printed although they have none
+  pub no_bytes_are_judged : (left old new : List ℕ) → EndsIn [] left old new None (Audit true) status.Done → ⊥
+  pub no_bytes_have_a_text : (left old new : List ℕ) → EndsIn [] left old new None Journal status.Done → ⊥
+  pub faulty_bytes_are_printed : (left : List ℕ) (result : Status) → EndsIn [] left [] (codes "x") None Journal result → ⊥
+  -- a text ends with status 1
+  pub text_is_a_fault : (source left old new : List ℕ) → EndsIn source left old new None Journal status.FaultFound → ⊥
   -- a mistake is done, and a call for help is refused
   pub mistake_is_done : EndsUnasked (UnknownArgument ∷ []) (Unit {0}) status.Done → ⊥
   pub help_is_refused : EndsUnasked (DisplayHelp ∷ []) (Unit {0}) status.Refused → ⊥
   -- faultless words do nothing, and all is done
-  pub nothing_is_done : EndsBy (λ file what result. ⊥) (Unit {0}) [] (Some (Audit, None)) status.Done → ⊥
+  pub nothing_is_done : EndsBy (λ file what result. ⊥) (Unit {0}) [] (Some (Audit false, None)) status.Done → ⊥

@@ -1,25 +1,29 @@
 -- How a command line ends.
-use Rattle.std.specs.Prelude.{◌≡◌, ◌⊎◌, ℕ, List, [], Option, Some}
+use Rattle.std.specs.Prelude.{◌≡◌, ◌⊎◌, ℕ, List, [], true, false, Option, Some}
 use Rattle.clap.specs.Kinds.{Kinds}
 use Rattle.fair_args.specs.Asks.{Asking}
 use Rattle.fair_args.specs.Refusals.{IsReason}
 use Rattle.fair_args.specs.declared.unasked.Unasked.{Unasked}
 use Rattle.fair_args.specs.declared.unasked.Unasked.TheVariants as unasked
 use Rattle.fairexec_args.specs.declared.asked.What.{What}
-use Rattle.fairexec_args.specs.declared.asked.What.TheVariants.{Run, Threads, Audit}
+use Rattle.fairexec_args.specs.declared.asked.What.TheVariants.{Run, Threads, Audit, Journal}
 use Rattle.fairexec_script.specs.Faults.{status_of as threads_status}
 use Rattle.text_words.specs.Statuses.{status_of}
 use Rattle.text_words.specs.declared.status.Status.{Status}
 use Rattle.text_words.specs.declared.status.Status.TheVariants as status
 use Rattle.fairexec.specs.Answers.{AuditAnswer, Passed, RunAnswer, ThreadsAnswer}
+use Rattle.fairexec.specs.Bytes.{JudgesBytes, PrintsText}
 use Rattle.fairexec.specs.Files.{Devices, Judges, Runs, RunsOnThreads}
 
 module _ {R F S : Type 0} (devices : Devices R F S) (at : Passed R S) where
-  -- what is asked for is done with the file, or with the source; the status is that of an answer, which tells what was read and written
+  -- What is asked for is done with the file, or with the source, or with the text of the journals whose bytes are there. The status is that of an answer, which tells what was read
+  -- and written.
   abbrev pub EndsFor : Option (List ℕ) → What → Status → Type 0
   EndsFor file (Run journal stats) result = (answer : RunAnswer) × (result ≡ status_of answer) × Runs devices at file journal stats answer
   EndsFor file (Threads journal stats) result = (answer : ThreadsAnswer) × (result ≡ threads_status answer) × RunsOnThreads devices at file journal stats answer
-  EndsFor file Audit result = (answer : AuditAnswer) × (result ≡ status_of answer) × Judges devices at file answer
+  EndsFor file (Audit false) result = (answer : AuditAnswer) × (result ≡ status_of answer) × Judges devices at file answer
+  EndsFor file (Audit true) result = JudgesBytes devices at file result
+  EndsFor file Journal result = PrintsText devices at file result
 
 -- the status of words that ask for nothing
 abbrev pub status_unasked : Unasked → Status

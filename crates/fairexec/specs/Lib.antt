@@ -1,4 +1,5 @@
 pub mod Answers
 pub mod BadEnds
+pub mod Bytes
 pub mod Ends
 pub mod Files

@@ -1,15 +1,22 @@
 //! Runs scripts on the model of a thread-per-core executor with fair task queues, or on its threads, and judges journals.
 #![tactic(auto)]
 
-ghost use Rattle.std.specs.Prelude.{◌≡◌, ◌≢◌, true, Err, IfOk, map, option_map, string_bytes};
+ghost use Rattle.std.specs.Prelude.{◌≡◌, ◌≢◌, Bool, true, Err, IfErr, IfOk, OnErr, OnOk, map, option_map, string_bytes};
+ghost use Rattle.std.specs.Io.KnownBytes.{Appends};
 ghost use Rattle.std.specs.declared.io.ErrorKind.TheVariants as kinds;
 ghost use Rattle.clap.specs.Words.{fault_of};
 ghost use Rattle.fair_args.specs.Asks.{asks_of};
+ghost use Rattle.fairexec.specs.Answers.{HasPrinted};
+ghost use Rattle.fairexec.specs.Bytes.{HasNoText, HasText, IsUnopenedBytes, JudgesBytes, PrintsText};
 ghost use Rattle.fairexec.specs.Ends.{EndsBy, EndsFor, status_unasked};
 ghost use Rattle.fairexec.specs.Files.{IsUnopened, IsUnopenedScript, Judges, Runs, RunsOnThreads};
 ghost use Rattle.fairexec_args.specs.Asks.{what_named};
 ghost use Rattle.fairexec_args.specs.CommandLine.{our_app};
 ghost use Rattle.fairexec_args.specs.declared.asked.What.TheVariants as whats;
+ghost use Rattle.text_bytes.specs.Tries.{HasFailedSince};
+ghost use Rattle.text_journal.specs.Pages.{AppendsFront};
+ghost use Rattle.text_parts.specs.Faults.{bytes_status};
+ghost use Rattle.text_parts.specs.declared.fault.BytesFault.TheVariants as bytes;
 ghost use Rattle.text_words.specs.Statuses.{fault_status, status_of};
 ghost use Rattle.fairexec_script.specs.Faults.{status_of as threads_code};
 ghost use Rattle.fairexec_script.specs.declared.fault.ThreadsFault.TheVariants.{Of};
@@ -27,8 +34,9 @@ use std::io::ErrorKind;
 use std::process::ExitCode;
 use std::sync::Wait;
 use std::thread::Threads;
-use text_bytes::{ByteSink, Source};
+use text_bytes::{ByteSink, DeviceFault, Source, TextSource, flush, write_all};
 use text_journal::JournalCause;
+use text_parts::{BytesFault, text_of_parts};
 use text_words::{Cause, CauseWords, Fault, Status};
 
 // Only this function has all rights of the system.
@@ -95,7 +103,7 @@ where
     R: ReadOnlyFiles + AllocGlobal + Threads + Wait + Copy + Drop + Send + 'static,
     ensures ends { EndsFor (record { source = I.Source; file = R.File.remaining; sink = S.ByteSink })
         (record { source_old = input.old; source_new = input.new; sink_old = output.old; sink_new = output.new }) (option_map (λ path. path.now) file.entry) what result }
-    ensures never { what ≢ whats.Audit → result ≢ status.FaultFound }
+    ensures never { ((bytes : Bool) → what ≢ whats.Audit bytes) → result ≢ status.FaultFound }
 {
     match what {
         What::Run { journal, stats } => ended(
@@ -105,7 +113,9 @@ where
         What::Threads { journal, stats } => {
             ran(console, threads(rt, journal, stats, file, input, output))
         }
-        What::Audit => ended(console, audit(rt, file, input, output)),
+        What::Audit { bytes: false } => ended(console, audit(rt, file, input, output)),
+        What::Audit { bytes: true } => audit_bytes(console, rt, file, input, output),
+        What::Journal => journal(console, rt, file, input, output),
     }
 }
 
@@ -184,6 +194,103 @@ fn audit<R: ReadOnlyFiles + AllocGlobal, I: Source, S: ByteSink>(
             Err(error) => Err(opening_fault(error.kind())),
         },
     }
+}
+
+/// Judges the journals whose bytes are in the file, or in the input.
+fn audit_bytes<C: Eprint, R: ReadOnlyFiles + AllocGlobal, I: Source, S: ByteSink>(
+    console: &C,
+    rt: &R,
+    file: Option<&str>,
+    input: &mut I,
+    output: &mut S,
+) -> Status
+    ensures { JudgesBytes (record { source = I.Source; file = R.File.remaining; sink = S.ByteSink })
+        (record { source_old = input.old; source_new = input.new; sink_old = output.old; sink_new = output.new }) (option_map (λ path. path.now) file.entry) result }
+{
+    match text_of(rt, file, input) {
+        Ok(text) => ended(
+            console,
+            audit_text(rt.alloc(), &mut TextSource::of(&text), output),
+        ),
+        Err(fault) => refused(console, fault),
+    }
+}
+
+/// Prints the text of the journals whose bytes are in the file, or in the input.
+fn journal<C: Eprint, R: ReadOnlyFiles + AllocGlobal, I: Source, S: ByteSink>(
+    console: &C,
+    rt: &R,
+    file: Option<&str>,
+    input: &mut I,
+    output: &mut S,
+) -> Status
+    ensures ends { PrintsText (record { source = I.Source; file = R.File.remaining; sink = S.ByteSink })
+        (record { source_old = input.old; source_new = input.new; sink_old = output.old; sink_new = output.new }) (option_map (λ path. path.now) file.entry) result }
+    ensures never { result ≢ status.FaultFound }
+{
+    match text_of(rt, file, input) {
+        Ok(text) => ended(console, print(&text, output)),
+        Err(why) => refused(console, why),
+    }
+}
+
+/// The text of the journals whose bytes are in the file, or in the input.
+fn text_of<R: ReadOnlyFiles + AllocGlobal, I: Source>(
+    rt: &R,
+    file: Option<&str>,
+    input: &mut I,
+) -> Result<Vec<u8>, BytesFault>
+    ensures text { IfOk result (λ text. HasText I.Source R.File.remaining input.old input.new (option_map (λ path. path.now) file.entry) text.items) }
+    ensures none { IfErr result (HasNoText I.Source R.File.remaining input.old input.new (option_map (λ path. path.now) file.entry)) }
+{
+    match file {
+        None => text_of_parts(rt.alloc(), input),
+        Some(path) => match rt.open_to_read(path) {
+            Ok(mut source) => text_of_parts(rt.alloc(), &mut source),
+            Err(error) => Err(unopened_bytes(error.kind())),
+        },
+    }
+}
+
+/// Prints a text.
+fn print<S: ByteSink>(text: &[u8], output: &mut S) -> Result<bool, Fault<Cause>>
+    ensures printed { HasPrinted S.ByteSink text.now output.old output.new result }
+    ensures done { IfOk result (λ done. done ≡ true) }
+{
+    match write_whole(text, output) {
+        Ok(()) => Ok(true),
+        Err(_) => Err(Fault::Write),
+    }
+}
+
+/// Writes a text, and tells the output that no more comes.
+fn write_whole<S: ByteSink>(text: &[u8], output: &mut S) -> Result<(), DeviceFault>
+    ensures ok { OnOk result (Appends (S.contents output.old) (S.contents output.new) text.now) }
+    ensures err { OnErr result (AppendsFront (S.contents output.old) (S.contents output.new) text.now) }
+    ensures failed { OnErr result (HasFailedSince S.tries S.interrupts S.fails output.old output.new) }
+{
+    write_all(output, text)?;
+    flush(output)
+}
+
+/// Why a file of bytes can't be opened.
+fn unopened_bytes(kind: ErrorKind) -> BytesFault
+    ensures memory { kind ≡ kinds.OutOfMemory → result ≡ bytes.Memory }
+    ensures other { kind ≢ kinds.OutOfMemory → result ≡ bytes.Read }
+    ensures either { IsUnopenedBytes result }
+{
+    match kind {
+        ErrorKind::OutOfMemory => BytesFault::Memory,
+        _ => BytesFault::Read,
+    }
+}
+
+/// Says on standard error why bytes have no text. Where even that can't be said, the status is the same.
+fn refused<C: Eprint>(console: &C, fault: BytesFault) -> Status
+    ensures { result ≡ bytes_status fault }
+{
+    let _ = eprintln!(console; "{fault}");
+    fault.status()
 }
 
 /// Why a file can't be opened.

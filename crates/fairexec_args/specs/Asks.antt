@@ -4,10 +4,11 @@ use Rattle.std.specs.Str.{bytes_eq}
 use Rattle.fair_args.specs.Asks.{Wishes}
 use Rattle.fair_args.specs.Found.{is_given}
 use Rattle.fairexec_args.specs.declared.asked.What.{What}
-use Rattle.fairexec_args.specs.declared.asked.What.TheVariants.{Run, Threads, Audit}
+use Rattle.fairexec_args.specs.declared.asked.What.TheVariants.{Run, Threads, Audit, Journal}
 
 -- what the subcommand of this name does, with these matches
 abbrev pub what_named : Wishes What
-what_named name rows = if bytes_eq name (codes "audit") then Audit
+what_named name rows = if bytes_eq name (codes "audit") then Audit (is_given (codes "bytes") rows)
+    else (if bytes_eq name (codes "journal") then Journal
     else (if bytes_eq name (codes "threads") then Threads (is_given (codes "journal") rows) (is_given (codes "stats") rows)
-    else Run (is_given (codes "journal") rows) (is_given (codes "stats") rows))
+    else Run (is_given (codes "journal") rows) (is_given (codes "stats") rows)))

@@ -1,6 +1,6 @@
 -- The command line: its subcommands, with their flags and arguments.
-use Rattle.std.specs.Prelude.{codes}
-use Rattle.clap.specs.Words.{App, new_app, with_rule, with_subcommand}
+use Rattle.std.specs.Prelude.{true, codes}
+use Rattle.clap.specs.Words.{App, Rule, Text, new_app, with_rule, with_subcommand}
 use Rattle.fair_args.specs.Commands.{file_rule, flag_rule, program_app}
 
 -- `run [--journal] [--stats] [FILE]`
@@ -17,9 +17,17 @@ threads_app = with_rule (with_rule (with_rule (new_app (codes "threads"))
     (flag_rule (codes "stats")))
     file_rule
 
--- `audit [FILE]`
+-- `audit [--bytes] [FILE]`
 unfoldable pub audit_app : App
-audit_app = with_rule (new_app (codes "audit")) file_rule
+audit_app = with_rule (with_rule (new_app (codes "audit")) (flag_rule (codes "bytes"))) file_rule
+
+-- a flag that has to be there, `--name`
+abbrev pub needed_flag_rule : Text → Rule
+needed_flag_rule name = record (flag_rule name) { required = true }
+
+-- `journal --text [FILE]`
+unfoldable pub journal_app : App
+journal_app = with_rule (with_rule (new_app (codes "journal")) (needed_flag_rule (codes "text"))) file_rule
 
 -- the program with the two subcommands that run scripts
 unfoldable pub with_runs : App
@@ -27,4 +35,4 @@ with_runs = with_subcommand (with_subcommand (program_app (codes "fairexec")) ru
 
 -- the command line of the program
 unfoldable pub our_app : App
-our_app = with_subcommand with_runs audit_app.top
+our_app = with_subcommand (with_subcommand with_runs audit_app.top) journal_app.top

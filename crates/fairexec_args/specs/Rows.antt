@@ -7,7 +7,7 @@ use Rattle.fair_args.specs.Asks.{asks_of}
 use Rattle.fairexec_args.specs.Asks.{what_named}
 use Rattle.fairexec_args.specs.CommandLine.{our_app}
 use Rattle.fairexec_args.specs.declared.asked.What.{What}
-use Rattle.fairexec_args.specs.declared.asked.What.TheVariants.{Run, Threads, Audit}
+use Rattle.fairexec_args.specs.declared.asked.What.TheVariants.{Run, Threads, Audit, Journal}
 
 -- the words of a command line, behind the program's name
 abbrev pub fairexec : List Text → List Text
@@ -44,7 +44,11 @@ pub record AreAsked : Type 0 where
   -- fairexec threads --stats --journal
   pub threads_both : IsAsked (fairexec (codes "threads" ∷ codes "--stats" ∷ codes "--journal" ∷ [])) (Threads true true) None
   -- fairexec audit
-  pub audit : IsAsked (fairexec (codes "audit" ∷ [])) Audit None
+  pub audit : IsAsked (fairexec (codes "audit" ∷ [])) (Audit false) None
+  -- fairexec audit x --bytes: a flag may come behind the file here too
+  pub audit_bytes : IsAsked (fairexec (codes "audit" ∷ codes "x" ∷ codes "--bytes" ∷ [])) (Audit true) (Some (codes "x"))
+  -- fairexec journal --text x
+  pub journal_text : IsAsked (fairexec (codes "journal" ∷ codes "--text" ∷ codes "x" ∷ [])) Journal (Some (codes "x"))
 
 -- command lines that are not taken
 pub record AreRefused : Type 0 where
@@ -62,6 +66,10 @@ pub record AreRefused : Type 0 where
   pub twice_on_threads : IsRefused (fairexec (codes "threads" ∷ codes "--stats" ∷ codes "--stats" ∷ [])) (kind.ArgumentConflict ∷ [])
   -- fairexec audit --journal
   pub flag_of_audit : IsRefused (fairexec (codes "audit" ∷ codes "--journal" ∷ [])) (kind.UnknownArgument ∷ [])
+  -- fairexec run --bytes
+  pub bytes_of_run : IsRefused (fairexec (codes "run" ∷ codes "--bytes" ∷ [])) (kind.UnknownArgument ∷ [])
+  -- fairexec journal x
+  pub no_form : IsRefused (fairexec (codes "journal" ∷ codes "x" ∷ [])) (kind.MissingRequiredArgument ∷ [])
   -- fairexec --help
   pub help : IsRefused (fairexec (codes "--help" ∷ [])) (kind.DisplayHelp ∷ [])
   -- fairexec run -h

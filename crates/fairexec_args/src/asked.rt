@@ -4,7 +4,7 @@ ghost use Rattle.std.specs.Prelude.{◌≡◌};
 ghost use Rattle.clap.specs.Words.{found_of, rows_of};
 ghost use Rattle.fairexec_args.specs.Asks.{what_named};
 
-use crate::command::{AUDIT, JOURNAL, STATS, THREADS, command};
+use crate::command::{AUDIT, BYTES, JOURNAL, STATS, THREADS, command};
 use clap::{ArgMatches, Command};
 use fair_args::{Wanted, flag_is_given};
 use std::alloc::{AllocError, Global};
@@ -16,8 +16,10 @@ pub enum What {
     Run { journal: bool, stats: bool },
     /// Its script is run on threads. It says whether journals and statistics are printed behind the outcomes.
     Threads { journal: bool, stats: bool },
-    /// Its journals are judged.
-    Audit,
+    /// Its journals are judged. It says whether they are bytes.
+    Audit { bytes: bool },
+    /// Its journals are bytes, and their text is printed.
+    Journal,
 }
 
 /// What the subcommands of the program want.
@@ -48,7 +50,11 @@ fn what_of(name: &str, found: &ArgMatches<'_>) -> What
     ensures { result ≡ what_named name.now (rows_of (found_of found.now)) }
 {
     if name == AUDIT {
-        return What::Audit;
+        let bytes = flag_is_given(found, BYTES);
+        return What::Audit { bytes };
+    }
+    if name == JOURNAL {
+        return What::Journal;
     }
     let journal = flag_is_given(found, JOURNAL);
     let stats = flag_is_given(found, STATS);

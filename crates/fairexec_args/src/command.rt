@@ -1,14 +1,14 @@
 //! The command line. Nothing here reads, prints or runs anything.
 
 ghost use Rattle.std.specs.Prelude.{◌≡◌, false, IfOk};
-ghost use Rattle.clap.specs.Words.{app_of, is_broken};
+ghost use Rattle.clap.specs.Words.{app_of, is_broken, with_rule};
 ghost use Rattle.fairexec_args.specs.CommandLine as spec;
 
-use clap::Command;
+use clap::{Arg, ArgAction, Command};
 use fair_args::{command_named, program_named, with_command, with_file, with_flag};
 use std::alloc::{AllocError, Global};
 
-/// The subcommand that judges the text of journals.
+/// The subcommand that judges journals.
 pub const AUDIT: &str = "audit";
 
 /// The subcommand that runs a script on the model.
@@ -20,11 +20,20 @@ pub const THREADS: &str = "threads";
 /// What FILE is to the subcommands that run scripts.
 const SCRIPT_HELP: &str = "The script; without it, standard input is read";
 
-/// The flag by which `run` and `threads` print their journals.
+/// What FILE is to the subcommands that read journals.
+const JOURNALS_HELP: &str = "The journals; without it, standard input is read";
+
+/// The flag by which `run` and `threads` print their journals, and the subcommand that prints journals in another form.
 pub const JOURNAL: &str = "journal";
 
 /// The flag by which they print their statistics.
 pub const STATS: &str = "stats";
+
+/// The flag by which `audit` reads bytes.
+pub const BYTES: &str = "bytes";
+
+/// The flag by which `journal` prints a text.
+const TEXT: &str = "text";
 
 /// What follows the options in the help of the program.
 const AFTER_HELP: &str = "\
@@ -40,7 +49,7 @@ The manual page, and the completions for bash, zsh and fish:
 Exit status:
   0  all is done
   1  the audit found a fault
-  2  the script, the journal text or the command line was refused
+  2  the script, the journals or the command line was refused
   3  a read or a write failed
   4  there was no memory, or a thread couldn't be made";
 
@@ -85,17 +94,29 @@ The statistics of --stats behind a journal are no part of its text: audit refuse
 Exit status:
   0  the journals are sound
   1  the audit found a fault
-  2  the journal text or the command line was refused
+  2  the journals or the command line was refused
+  3  a read or a write failed
+  4  there was no memory";
+
+/// What follows the options in the help of `journal`.
+const AFTER_JOURNAL: &str = "\
+Example:
+  cat head part0 part1 | fairexec journal --text | fairexec audit
+
+Exit status:
+  0  all is done
+  2  the journals or the command line was refused
   3  a read or a write failed
   4  there was no memory";
 
 /// The commands and arguments of the program, with their help.
-#[tactic(auto, unfolding(crate::specs::CommandLine::our_app, crate::specs::CommandLine::audit_app))]
+#[tactic(auto, unfolding(crate::specs::CommandLine::our_app, crate::specs::CommandLine::audit_app, crate::specs::CommandLine::journal_app))]
 pub fn command<'a>(alloc: Global) -> Result<Command<'a>, AllocError>
     ensures app { IfOk result (λ command. app_of command ≡ spec.our_app) }
     ensures whole { IfOk result (λ command. is_broken command ≡ false) }
 {
-    with_command(running(alloc)?, audit_command(alloc)?)
+    let with_audit = with_command(running(alloc)?, audit_command(alloc)?)?;
+    with_command(with_audit, journal_command(alloc)?)
 }
 
 /// The program with the two commands that run scripts.
@@ -168,7 +189,7 @@ fn threads_command<'a>(alloc: Global) -> Result<Command<'a>, AllocError>
     with_file(alloc, command, SCRIPT_HELP)
 }
 
-/// `audit [FILE]`
+/// `audit [--bytes] [FILE]`
 #[tactic(auto, unfolding(crate::specs::CommandLine::audit_app))]
 fn audit_command<'a>(alloc: Global) -> Result<Command<'a>, AllocError>
     ensures app { IfOk result (λ command. app_of command ≡ spec.audit_app) }
@@ -180,9 +201,45 @@ fn audit_command<'a>(alloc: Global) -> Result<Command<'a>, AllocError>
         "Judges journals, and prints whether they are sound or their first fault",
         AFTER_AUDIT,
     );
-    with_file(
+    let command = with_flag(
         alloc,
         command,
-        "The journal text; without it, standard input is read",
-    )
+        BYTES,
+        "Reads the journals as bytes, a head and parts, in place of text",
+    )?;
+    with_file(alloc, command, JOURNALS_HELP)
+}
+
+/// `journal --text [FILE]`
+#[tactic(auto, unfolding(crate::specs::CommandLine::journal_app))]
+fn journal_command<'a>(alloc: Global) -> Result<Command<'a>, AllocError>
+    ensures app { IfOk result (λ command. app_of command ≡ spec.journal_app) }
+    ensures whole { IfOk result (λ command. is_broken command ≡ false) }
+{
+    let command = command_named(
+        alloc,
+        JOURNAL,
+        "Reads journals as bytes, and prints their text",
+        AFTER_JOURNAL,
+    );
+    let command = with_needed_flag(alloc, command, TEXT, "Prints the text of the journals")?;
+    with_file(alloc, command, JOURNALS_HELP)
+}
+
+/// The command with the flag `--name` more, which has to be there.
+fn with_needed_flag<'a>(
+    alloc: Global,
+    command: Command<'a>,
+    name: &'a str,
+    help: &'a str,
+) -> Result<Command<'a>, AllocError>
+    ensures app { IfOk result (λ new. app_of new ≡ with_rule (app_of command.entry) (spec.needed_flag_rule name.entry.now)) }
+    ensures whole { IfOk result (λ new. is_broken new ≡ is_broken command.entry) }
+{
+    let flag = Arg::new(alloc, name)
+        .long(name)
+        .action(ArgAction::SetTrue)
+        .required(true)
+        .help(help);
+    command.arg(flag)
 }

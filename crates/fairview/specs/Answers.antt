@@ -34,18 +34,23 @@ pub record Devices (R F S : Type 0) : Type 1 where
 abbrev pub Answer : Type 0
 Answer = Result (Unit {0}) ViewFault
 
+module _ {S : Type 0} (sink : writing.Ghosts S) where
+  -- The view of this text, if it is known, is written behind what the sink had; or the answer tells why not, and that is so.
+  pub record HasShown (view : View) (text : Option (List ℕ)) (old new : S) (answer : Answer) : Type 0 where
+    pub done : OnOk answer (IsViewed view text (sink.contents old) (sink.contents new))
+    pub faulty : IfErr answer (IfText (λ fault. IfSome text (λ all. journals_of all ≡ Err fault)))
+    pub coreless : IfErr answer (IfCoreless (λ core. IfSome text (LacksCore view core)))
+    pub silent : IfErr answer (IfUnshown (Keeps (sink.contents old) (sink.contents new)))
+    pub unwritten : IfErr answer (IfUnwritten (IsCutShort view text (sink.contents old) (sink.contents new)))
+    pub failed : IfErr answer (IfUnwritten (HasFailedSince sink.tries sink.interrupts sink.fails old new))
+
 module _ {R S : Type 0} (source : reading.Ghosts R) (sink : writing.Ghosts S) where
-  -- The source was read, and the view of it written behind what the sink had; or the answer tells why not, and that is so. This is what `view_text` answers.
+  -- The source was read, and the view of its text is written; or the answer tells why not. This is what `view_text` answers.
   pub record Answers (view : View) (at : Passed R S) (answer : Answer) : Type 0 where
-    pub done : OnOk answer (IsViewed view (source.remaining at.source_old) (sink.contents at.sink_old) (sink.contents at.sink_new))
-    pub faulty : IfErr answer (IfText (λ fault. IfSome (source.remaining at.source_old) (λ text. journals_of text ≡ Err fault)))
+    pub text : HasShown sink view (source.remaining at.source_old) at.sink_old at.sink_new answer
     pub prompt : IfErr answer (IsPromptly judge empty_draft (source.remaining at.source_old) (source.remaining at.source_new))
     pub at_once : IfErr answer (IfText (λ fault. IsToldByRead judge empty_draft source.remaining source.tries source.reads source.interrupts at.source_old at.source_new))
     pub unread : IfErr answer (IfRead (HasFailedSince source.tries source.interrupts source.fails at.source_old at.source_new))
-    pub coreless : IfErr answer (IfCoreless (λ core. IfSome (source.remaining at.source_old) (LacksCore view core)))
-    pub silent : IfErr answer (IfUnshown (Keeps (sink.contents at.sink_old) (sink.contents at.sink_new)))
-    pub unwritten : IfErr answer (IfUnwritten (IsCutShort view (source.remaining at.source_old) (sink.contents at.sink_old) (sink.contents at.sink_new)))
-    pub failed : IfErr answer (IfUnwritten (HasFailedSince sink.tries sink.interrupts sink.fails at.sink_old at.sink_new))
 
 -- a file can't be opened: that is a failed read, or there is no memory
 abbrev pub IsUnopened : Answer → Type 0

@@ -1,5 +1,5 @@
 -- Small cases of ends that no command line may have.
-use Rattle.std.specs.Prelude.{◌≡◌, ◌∷◌, [], ℕ, List, Option, Some, None, Ok, Err, codes}
+use Rattle.std.specs.Prelude.{◌≡◌, ◌∷◌, [], ℕ, Bool, false, List, Option, Some, None, Ok, Err, codes}
 use Rattle.std.proofs.Common.{inl, inr}
 use Rattle.clap.specs.Kinds.{IsAmong}
 use Rattle.clap.specs.declared.error.kind.ErrorKind.{ErrorKind}
@@ -12,14 +12,15 @@ use Rattle.fairview_report.specs.declared.fault.ViewFault.TheVariants as fault
 use Rattle.fairview_report.specs.declared.view.View.{View}
 use Rattle.fairview_report.specs.declared.view.View.TheVariants.{Polls}
 use Rattle.text_bytes.specs.declared.sink.ByteSink as writing
+use Rattle.text_words.specs.declared.status.Status.{Status}
 use Rattle.text_words.specs.declared.status.Status.TheVariants as status
 use Rattle.fairview.specs.Answers.{Answer, Answers, IsUnopened, ShowsOf, file_reads}
 use Rattle.fairview.specs.Ends.{EndsBy, EndsFor, EndsUnasked, status_unasked}
 use Rattle.fairview.specs.declared.refusal.Refusal.TheVariants.{Name}
 
 -- nothing is known of what is shown
-abbrev pub Anything : Option (List ℕ) → View → Answer → Type 0
-Anything file view answer = Unit {0}
+abbrev pub Anything : Bool → Option (List ℕ) → View → Status → Type 0
+Anything bytes file view result = Unit {0}
 
 -- a list of bytes is a sink, and nothing is known of a try
 abbrev pub list_writes : writing.Ghosts (List ℕ)
@@ -31,11 +32,11 @@ AnswersIn source old new answer = Answers (file_reads Some) list_writes Polls (r
 
 -- polls are shown, and nothing is written
 pub nothing_is_written : (source : List ℕ) → AnswersIn source [] [] (Ok tt) → ⊥
-nothing_is_written source answers = cc (answers.done.shown.4, answers.done.appends)
+nothing_is_written source answers = cc (answers.text.done.shown.4, answers.text.done.appends)
 
 -- what the sink had goes away
 pub sink_is_emptied : (source : List ℕ) → AnswersIn source (1 ∷ []) [] (Ok tt) → ⊥
-sink_is_emptied source answers = cc answers.done.appends
+sink_is_emptied source answers = cc answers.text.done.appends
 
 -- these words of a file are the source and these are left of it, polls are shown of a file, and nothing is written
 abbrev pub ShowsFile : List ℕ → List ℕ → Answer → Type 0
@@ -47,11 +48,11 @@ pub source_is_read_too : ShowsFile (1 ∷ []) [] (Err fault.Read) → ⊥
 source_is_read_too shows = cc shows.1
 
 -- a wrong word ends as done
-pub wrong_word_is_done : EndsFor (Anything None) (Unit {0}) (Err Name) status.Done → ⊥
+pub wrong_word_is_done : EndsFor (Anything false None) (Unit {0}) (Err Name) status.Done → ⊥
 wrong_word_is_done ends = cc ends.0
 
 -- words that name no submission end as done
-pub no_name_is_done : EndsBy Anything (Unit {0}) [] (Some (wish.Why None, None)) status.Done → ⊥
+pub no_name_is_done : EndsBy Anything (Unit {0}) [] (Some ((wish.Why None, false), None)) status.Done → ⊥
 no_name_is_done (inl ends) = cc ends.0
 no_name_is_done (inr ends) = cc ends.0
 

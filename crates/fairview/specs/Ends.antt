@@ -1,23 +1,21 @@
 -- How a command line ends.
-use Rattle.std.specs.Prelude.{◌≡◌, ◌⊎◌, ℕ, List, [], Option, Some, None, Result, Ok, Err}
+use Rattle.std.specs.Prelude.{◌≡◌, ◌⊎◌, ℕ, Bool, List, [], Option, Some, None, Result, Ok, Err}
 use Rattle.clap.specs.Kinds.{Kinds}
 use Rattle.fair_args.specs.Asks.{Asking}
 use Rattle.fair_args.specs.Refusals.{IsReason}
 use Rattle.fair_args.specs.declared.unasked.Unasked.{Unasked}
 use Rattle.fair_args.specs.declared.unasked.Unasked.TheVariants as unasked
 use Rattle.fairview_args.specs.Asks.{Wish}
-use Rattle.fairview_report.specs.Faults.{status_of}
 use Rattle.fairview_report.specs.declared.view.View.{View}
 use Rattle.text_words.specs.declared.status.Status.{Status}
 use Rattle.text_words.specs.declared.status.Status.TheVariants as status
-use Rattle.fairview.specs.Answers.{Answer}
 use Rattle.fairview.specs.Shows.{view_asked}
 use Rattle.fairview.specs.declared.refusal.Refusal.{Refusal}
 
--- a wrong word is refused, and nothing is read or written; else the status is that of an answer, which tells what was shown
-abbrev pub EndsFor : (View → Answer → Type 0) → Type 0 → Result View Refusal → Status → Type 0
+-- a wrong word is refused, and nothing is read or written; else it ends as what is shown does
+abbrev pub EndsFor : (View → Status → Type 0) → Type 0 → Result View Refusal → Status → Type 0
 EndsFor shows same (Err refusal) result = (result ≡ status.Refused) × same
-EndsFor shows same (Ok view) result = (answer : Answer) × (result ≡ status_of answer) × shows view answer
+EndsFor shows same (Ok view) result = shows view result
 
 -- the status of words that ask for nothing
 abbrev pub status_unasked : Unasked → Status
@@ -34,6 +32,6 @@ pub record EndsUnasked (faults : Kinds) (same : Type 0) (result : Status) : Type
   pub stays : same
 
 -- Faultless words end as what they ask for, and faulty ones by a fault. Memory may run out before either is known.
-abbrev pub EndsBy : (Option (List ℕ) → View → Answer → Type 0) → Type 0 → Kinds → Option (Asking Wish) → Status → Type 0
-EndsBy shows same [] (Some asking) result = EndsFor (shows asking.1) same (view_asked asking.0) result ⊎ ((result ≡ status.Memory) × same)
+abbrev pub EndsBy : (Bool → Option (List ℕ) → View → Status → Type 0) → Type 0 → Kinds → Option (Asking (Wish × Bool)) → Status → Type 0
+EndsBy shows same [] (Some asking) result = EndsFor (shows asking.0.1 asking.1) same (view_asked asking.0.0) result ⊎ ((result ≡ status.Memory) × same)
 EndsBy shows same faults asked result = EndsUnasked faults same result

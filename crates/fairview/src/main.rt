@@ -5,29 +5,33 @@
 mod refusal;
 mod words;
 
-ghost use Rattle.std.specs.Prelude.{◌≡◌, ◌≢◌, Err, map, option_map, string_bytes};
+ghost use Rattle.std.specs.Prelude.{◌≡◌, ◌≢◌, Err, IfErr, IfOk, map, option_map, string_bytes};
 ghost use Rattle.std.specs.declared.io.ErrorKind.TheVariants as kinds;
 ghost use Rattle.clap.specs.Words.{fault_of};
 ghost use Rattle.fair_args.specs.Asks.{asks_of};
 ghost use Rattle.fairview.specs.Answers.{IsUnopened, ShowsOf};
+ghost use Rattle.fairview.specs.Bytes.{EndsShown, HasNoText, HasText, IsUnopenedBytes, ShowsBytes};
 ghost use Rattle.fairview.specs.Ends.{EndsBy, EndsFor, status_unasked};
 ghost use Rattle.fairview.specs.Shows.{view_asked};
-ghost use Rattle.fairview_args.specs.Asks.{what_named, what_told};
+ghost use Rattle.fairview_args.specs.Asks.{request_named, what_told};
 ghost use Rattle.fairview_args.specs.CommandLine.{our_app};
 ghost use Rattle.fairview_report.specs.Faults.{status_of};
 ghost use Rattle.fairview_report.specs.declared.fault.ViewFault.TheVariants as faults;
+ghost use Rattle.text_parts.specs.Faults.{bytes_status};
+ghost use Rattle.text_parts.specs.declared.fault.BytesFault.TheVariants as bytes;
 ghost use Rattle.text_words.specs.declared.status.Status.TheVariants as status;
 
 use crate::refusal::Refusal;
 use crate::words::view_of;
 use fair_args::{Console, ReadOnly, ReadOnlyFiles, Unasked, words_of};
-use fairview_args::{What, parse};
+use fairview_args::{Request, parse};
 use fairview_report::fault::status_of;
 use fairview_report::{View, ViewFault, view_text};
 use std::io;
 use std::io::ErrorKind;
 use std::process::ExitCode;
-use text_bytes::{ByteSink, Source};
+use text_bytes::{ByteSink, Source, TextSource};
+use text_parts::{BytesFault, text_of_parts};
 use text_words::Status;
 
 // Only this function has all rights of the system.
@@ -68,9 +72,9 @@ fn by_words<C: Print + Eprint, R: ReadOnlyFiles + AllocGlobal, I: Source, S: Byt
     output: &mut S,
 ) -> Status
     ensures ends { EndsBy
-        (ShowsOf (record { source = I.Source; file = R.File.remaining; sink = S.ByteSink }) (record { source_old = input.old; source_new = input.new; sink_old = output.old; sink_new = output.new }))
+        (EndsShown (record { source = I.Source; file = R.File.remaining; sink = S.ByteSink }) (record { source_old = input.old; source_new = input.new; sink_old = output.old; sink_new = output.new }))
         ((input.new ≡ input.old) × (output.new ≡ output.old))
-        (fault_of our_app (map string_bytes words.now)) (asks_of what_named our_app (map string_bytes words.now)) result }
+        (fault_of our_app (map string_bytes words.now)) (asks_of request_named our_app (map string_bytes words.now)) result }
     ensures never { result ≢ status.FaultFound }
 {
     match parse(console, rt.alloc(), words) {
@@ -83,17 +87,19 @@ fn by_words<C: Print + Eprint, R: ReadOnlyFiles + AllocGlobal, I: Source, S: Byt
 fn done<C: Eprint, R: ReadOnlyFiles + AllocGlobal, I: Source, S: ByteSink>(
     console: &C,
     rt: &R,
-    what: What<'_>,
+    request: Request<'_>,
     file: Option<&str>,
     input: &mut I,
     output: &mut S,
 ) -> Status
     ensures ends { EndsFor
-        (ShowsOf (record { source = I.Source; file = R.File.remaining; sink = S.ByteSink }) (record { source_old = input.old; source_new = input.new; sink_old = output.old; sink_new = output.new }) (option_map (λ path. path.now) file.entry))
-        ((input.new ≡ input.old) × (output.new ≡ output.old)) (view_asked (what_told what.entry)) result }
+        (EndsShown (record { source = I.Source; file = R.File.remaining; sink = S.ByteSink }) (record { source_old = input.old; source_new = input.new; sink_old = output.old; sink_new = output.new })
+        request.entry.bytes (option_map (λ path. path.now) file.entry))
+        ((input.new ≡ input.old) × (output.new ≡ output.old)) (view_asked (what_told request.entry.what)) result }
     ensures never { result ≢ status.FaultFound }
 {
-    match view_of(what) {
+    match view_of(request.what) {
+        Ok(view) if request.bytes => show_bytes(console, rt, view, file, input, output),
         Ok(view) => ended(console, show(rt, view, file, input, output)),
         Err(refusal) => word_refused(console, refusal),
     }
@@ -129,6 +135,66 @@ fn show<R: ReadOnlyFiles + AllocGlobal, I: Source, S: ByteSink>(
             Err(error) => Err(unopened(error.kind())),
         },
     }
+}
+
+/// Shows what is asked for of the journals whose bytes are in the file, or in the input.
+fn show_bytes<C: Eprint, R: ReadOnlyFiles + AllocGlobal, I: Source, S: ByteSink>(
+    console: &C,
+    rt: &R,
+    view: View,
+    file: Option<&str>,
+    input: &mut I,
+    output: &mut S,
+) -> Status
+    ensures shows { ShowsBytes (record { source = I.Source; file = R.File.remaining; sink = S.ByteSink })
+        (record { source_old = input.old; source_new = input.new; sink_old = output.old; sink_new = output.new }) (option_map (λ path. path.now) file.entry) view result }
+    ensures never { result ≢ status.FaultFound }
+{
+    match text_of(rt, file, input) {
+        Ok(text) => ended(
+            console,
+            view_text(rt.alloc(), view, &mut TextSource::of(&text), output),
+        ),
+        Err(fault) => bytes_refused(console, fault),
+    }
+}
+
+/// The text of the journals whose bytes are in the file, or in the input.
+fn text_of<R: ReadOnlyFiles + AllocGlobal, I: Source>(
+    rt: &R,
+    file: Option<&str>,
+    input: &mut I,
+) -> Result<Vec<u8>, BytesFault>
+    ensures text { IfOk result (λ text. HasText I.Source R.File.remaining input.old input.new (option_map (λ path. path.now) file.entry) text.items) }
+    ensures none { IfErr result (HasNoText I.Source R.File.remaining input.old input.new (option_map (λ path. path.now) file.entry)) }
+{
+    match file {
+        None => text_of_parts(rt.alloc(), input),
+        Some(path) => match rt.open_to_read(path) {
+            Ok(mut source) => text_of_parts(rt.alloc(), &mut source),
+            Err(error) => Err(unopened_bytes(error.kind())),
+        },
+    }
+}
+
+/// Why a file of bytes can't be opened.
+fn unopened_bytes(kind: ErrorKind) -> BytesFault
+    ensures memory { kind ≡ kinds.OutOfMemory → result ≡ bytes.Memory }
+    ensures other { kind ≢ kinds.OutOfMemory → result ≡ bytes.Read }
+    ensures either { IsUnopenedBytes result }
+{
+    match kind {
+        ErrorKind::OutOfMemory => BytesFault::Memory,
+        _ => BytesFault::Read,
+    }
+}
+
+/// Says on standard error why bytes have no text. Where even that can't be said, the status is the same.
+fn bytes_refused<C: Eprint>(console: &C, fault: BytesFault) -> Status
+    ensures { result ≡ bytes_status fault }
+{
+    let _ = eprintln!(console; "{fault}");
+    fault.status()
 }
 
 /// Why a journal text can't be opened.

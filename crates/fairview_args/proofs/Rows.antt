@@ -22,6 +22,13 @@ asked_rows = record {
   lag = (refl, refl);
   lag_text = (refl, refl);
   trace = (refl, refl);
+  wait_bytes = (refl, refl);
+  why_bytes = (refl, refl);
+  gantt_bytes = (refl, refl);
+  share_bytes = (refl, refl);
+  csv_bytes = (refl, refl);
+  lag_bytes = (refl, refl);
+  trace_bytes = (refl, refl);
 }
 
 pub refused_rows : AreRefused

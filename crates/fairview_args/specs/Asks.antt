@@ -5,6 +5,7 @@ use Rattle.clap.specs.Words.{Row, Text}
 use Rattle.clap.specs.Walk.{first_of}
 use Rattle.fair_args.specs.Asks.{Wishes}
 use Rattle.fair_args.specs.Found.{is_given}
+use Rattle.fairview_args.specs.declared.asked.Request.{Request}
 use Rattle.fairview_args.specs.declared.asked.What.{What}
 use Rattle.fairview_args.specs.declared.asked.What.TheVariants as what
 
@@ -41,3 +42,10 @@ what_told what.Csv = Csv
 what_told (what.Gantt core from to) = Gantt (option_map (λ word. word.now) core) (option_map (λ word. word.now) from) (option_map (λ word. word.now) to)
 what_told (what.Lag text) = Lag text
 what_told what.Trace = Trace
+
+-- what is to be printed of journals, and whether these are bytes
+abbrev pub request_named : Wishes (Wish × Bool)
+request_named name rows = (what_named name rows, is_given (codes "bytes") rows)
+
+abbrev pub request_told : Request → Wish × Bool
+request_told request = (what_told request.what, request.bytes)

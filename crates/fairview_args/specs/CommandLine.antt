@@ -3,40 +3,42 @@ use Rattle.std.specs.Prelude.{codes}
 use Rattle.clap.specs.Words.{App, new_app, with_rule, with_subcommand}
 use Rattle.fair_args.specs.Commands.{file_rule, flag_rule, option_rule, program_app, word_rule}
 
--- `wait [--plain] [FILE]`
-unfoldable pub wait_app : App
-wait_app = with_rule (with_rule (new_app (codes "wait")) (flag_rule (codes "plain"))) file_rule
+-- `.. [--bytes] [FILE]`: what each of them reads
+abbrev pub reading : App → App
+reading app = with_rule (with_rule app (flag_rule (codes "bytes"))) file_rule
 
--- `share [--plain] [--csv] [FILE]`
+-- `wait [--plain] [--bytes] [FILE]`
+unfoldable pub wait_app : App
+wait_app = reading (with_rule (new_app (codes "wait")) (flag_rule (codes "plain")))
+
+-- `share [--plain] [--csv] [--bytes] [FILE]`
 unfoldable pub share_app : App
-share_app = with_rule (with_rule (with_rule (new_app (codes "share"))
+share_app = reading (with_rule (with_rule (new_app (codes "share"))
     (flag_rule (codes "plain")))
     (flag_rule (codes "csv")))
-    file_rule
 
--- `why NAME [FILE]`
+-- `why [--bytes] NAME [FILE]`
 unfoldable pub why_app : App
-why_app = with_rule (with_rule (new_app (codes "why")) (word_rule (codes "NAME"))) file_rule
+why_app = reading (with_rule (new_app (codes "why")) (word_rule (codes "NAME")))
 
--- `csv [FILE]`
+-- `csv [--bytes] [FILE]`
 unfoldable pub csv_app : App
-csv_app = with_rule (new_app (codes "csv")) file_rule
+csv_app = reading (new_app (codes "csv"))
 
--- `gantt [--core D] [--from N] [--to N] [FILE]`
+-- `gantt [--core D] [--from N] [--to N] [--bytes] [FILE]`
 unfoldable pub gantt_app : App
-gantt_app = with_rule (with_rule (with_rule (with_rule (new_app (codes "gantt"))
+gantt_app = reading (with_rule (with_rule (with_rule (new_app (codes "gantt"))
     (option_rule (codes "core")))
     (option_rule (codes "from")))
     (option_rule (codes "to")))
-    file_rule
 
--- `lag [--text] [FILE]`
+-- `lag [--text] [--bytes] [FILE]`
 unfoldable pub lag_app : App
-lag_app = with_rule (with_rule (new_app (codes "lag")) (flag_rule (codes "text"))) file_rule
+lag_app = reading (with_rule (new_app (codes "lag")) (flag_rule (codes "text")))
 
--- `trace [FILE]`
+-- `trace [--bytes] [FILE]`
 unfoldable pub trace_app : App
-trace_app = with_rule (new_app (codes "trace")) file_rule
+trace_app = reading (new_app (codes "trace"))
 
 -- the program with the two subcommands that print tables
 unfoldable pub with_tables : App

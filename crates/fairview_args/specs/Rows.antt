@@ -1,19 +1,22 @@
 -- Command lines, and what each asks for or why it is refused.
-use Rattle.std.specs.Prelude.{◌≡◌, [], ◌∷◌, true, false, List, Option, Some, None, codes}
+use Rattle.std.specs.Prelude.{◌≡◌, [], ◌∷◌, Bool, true, false, List, Option, Some, None, codes}
 use Rattle.clap.specs.Words.{Text, fault_of, takes}
 use Rattle.clap.specs.Kinds.{Kinds}
 use Rattle.clap.specs.declared.error.kind.ErrorKind.TheVariants as kind
 use Rattle.fair_args.specs.Asks.{asks_of}
-use Rattle.fairview_args.specs.Asks.{Wish, Wait, Share, Why, Csv, Gantt, Lag, Trace, what_named}
+use Rattle.fairview_args.specs.Asks.{Wish, Wait, Share, Why, Csv, Gantt, Lag, Trace, request_named}
 use Rattle.fairview_args.specs.CommandLine.{our_app}
 
 -- the words of a command line, behind the program's name
 abbrev pub fairview : List Text → List Text
 fairview words = codes "fairview" ∷ words
 
--- the words are taken, and ask for this
+-- the words are taken, and ask for this, of bytes or of text
+abbrev pub IsAskedOf : Bool → List Text → Wish → Option Text → Type 0
+IsAskedOf bytes words wish file = (takes our_app words ≡ true) × (asks_of request_named our_app words ≡ Some ((wish, bytes), file))
+
 abbrev pub IsAsked : List Text → Wish → Option Text → Type 0
-IsAsked words wish file = (takes our_app words ≡ true) × (asks_of what_named our_app words ≡ Some (wish, file))
+IsAsked words wish file = IsAskedOf false words wish file
 
 -- the words are not taken, and have one of these faults
 abbrev pub IsRefused : List Text → Kinds → Type 0
@@ -49,6 +52,16 @@ pub record AreAsked : Type 0 where
   pub lag_text : IsAsked (fairview (codes "lag" ∷ codes "--text" ∷ codes "x" ∷ [])) (Lag true) (Some (codes "x"))
   -- fairview trace x
   pub trace : IsAsked (fairview (codes "trace" ∷ codes "x" ∷ [])) Trace (Some (codes "x"))
+  -- fairview wait --bytes x
+  pub wait_bytes : IsAskedOf true (fairview (codes "wait" ∷ codes "--bytes" ∷ codes "x" ∷ [])) (Wait false) (Some (codes "x"))
+  -- fairview why --bytes 0>1#2: the flag may come before the name
+  pub why_bytes : IsAskedOf true (fairview (codes "why" ∷ codes "--bytes" ∷ codes "0>1#2" ∷ [])) (Why (Some (codes "0>1#2"))) None
+  -- fairview gantt --bytes --core 1, and the others behind their own flags
+  pub gantt_bytes : IsAskedOf true (fairview (codes "gantt" ∷ codes "--bytes" ∷ codes "--core" ∷ codes "1" ∷ [])) (Gantt (Some (codes "1")) None None) None
+  pub share_bytes : IsAskedOf true (fairview (codes "share" ∷ codes "--csv" ∷ codes "--bytes" ∷ [])) (Share false true) None
+  pub csv_bytes : IsAskedOf true (fairview (codes "csv" ∷ codes "--bytes" ∷ [])) Csv None
+  pub lag_bytes : IsAskedOf true (fairview (codes "lag" ∷ codes "--text" ∷ codes "--bytes" ∷ [])) (Lag true) None
+  pub trace_bytes : IsAskedOf true (fairview (codes "trace" ∷ codes "--bytes" ∷ [])) Trace None
 
 -- command lines that are not taken
 pub record AreRefused : Type 0 where

@@ -5,7 +5,7 @@ ghost use Rattle.clap.specs.Words.{found_of, rows_of};
 ghost use Rattle.fairview_args.specs.Asks.{gantt_named, what_named, what_told};
 
 use crate::command::{
-    CORE, CSV, FROM, GANTT, LAG, NAME, PLAIN, SHARE, TEXT, TO, TRACE, WAIT, WHY, command,
+    BYTES, CORE, CSV, FROM, GANTT, LAG, NAME, PLAIN, SHARE, TEXT, TO, TRACE, WAIT, WHY, command,
 };
 use clap::{ArgMatches, Command};
 use fair_args::{Wanted, flag_is_given, word_of};
@@ -43,25 +43,36 @@ pub enum What<'a> {
     Trace,
 }
 
+/// What is to be printed of journals, and whether these are bytes.
+#[derive(Clone, Copy)]
+pub struct Request<'a> {
+    pub what: What<'a>,
+    pub bytes: bool,
+}
+
 /// What the subcommands of the program want.
-impl<'a> Wanted<'a> for What<'a> {
-    ghost use Rattle.fairview_args.specs.Asks.{Wish, what_named, what_told};
+impl<'a> Wanted<'a> for Request<'a> {
+    ghost use Rattle.std.specs.Prelude.{Bool};
+    ghost use Rattle.fairview_args.specs.Asks.{Wish, request_named, request_told};
     ghost use Rattle.fairview_args.specs.CommandLine.{our_app};
 
-    ghost Wish = { Wish };
+    ghost Wish = { Wish × Bool };
 
     ghost app = { our_app };
 
-    ghost wishes = { what_named };
+    ghost wishes = { request_named };
 
-    ghost told = { what_told };
+    ghost told = { request_told };
 
     fn command(alloc: Global) -> Result<Command<'a>, AllocError> {
         command(alloc)
     }
 
-    fn wanted(name: &str, found: &ArgMatches<'a>) -> What<'a> {
-        what_of(name, found)
+    fn wanted(name: &str, found: &ArgMatches<'a>) -> Request<'a> {
+        Request {
+            what: what_of(name, found),
+            bytes: flag_is_given(found, BYTES),
+        }
     }
 }
 

@@ -49,8 +49,14 @@ pub const FROM: &str = "from";
 /// The option that names the last turn that is drawn.
 pub const TO: &str = "to";
 
+/// The flag by which bytes are read.
+pub const BYTES: &str = "bytes";
+
+/// What that flag does.
+const BYTES_HELP: &str = "Reads the journals as bytes, a head and parts, in place of text";
+
 /// What FILE is.
-const FILE_HELP: &str = "The journal text; without it, standard input is read";
+const FILE_HELP: &str = "The journals; without it, standard input is read";
 
 /// What follows the options in the help of the program.
 const AFTER_HELP: &str = "\
@@ -64,7 +70,7 @@ The manual page, and the completions for bash, zsh and fish:
 
 Exit status:
   0  all is done
-  2  the journal text or the command line was refused
+  2  the journals or the command line was refused
   3  a read or a write failed
   4  there was no memory";
 
@@ -165,7 +171,7 @@ fn with_tables<'a>(alloc: Global) -> Result<Command<'a>, AllocError>
     with_command(with_wait, share_command(alloc)?)
 }
 
-/// `wait [--plain] [FILE]`
+/// `wait [--plain] [--bytes] [FILE]`
 #[tactic(auto, unfolding(crate::specs::CommandLine::wait_app))]
 fn wait_command<'a>(alloc: Global) -> Result<Command<'a>, AllocError>
     ensures app { IfOk result (λ command. app_of command ≡ spec.wait_app) }
@@ -178,10 +184,11 @@ fn wait_command<'a>(alloc: Global) -> Result<Command<'a>, AllocError>
         AFTER_WAIT,
     );
     let command = with_flag(alloc, command, PLAIN, "Draws the bars in ASCII")?;
+    let command = with_flag(alloc, command, BYTES, BYTES_HELP)?;
     with_file(alloc, command, FILE_HELP)
 }
 
-/// `share [--plain] [--csv] [FILE]`
+/// `share [--plain] [--csv] [--bytes] [FILE]`
 #[tactic(auto, unfolding(crate::specs::CommandLine::share_app))]
 fn share_command<'a>(alloc: Global) -> Result<Command<'a>, AllocError>
     ensures app { IfOk result (λ command. app_of command ≡ spec.share_app) }
@@ -195,10 +202,11 @@ fn share_command<'a>(alloc: Global) -> Result<Command<'a>, AllocError>
     );
     let command = with_flag(alloc, command, PLAIN, "Draws the bars in ASCII")?;
     let command = with_flag(alloc, command, CSV, "Prints rows with commas and no bars")?;
+    let command = with_flag(alloc, command, BYTES, BYTES_HELP)?;
     with_file(alloc, command, FILE_HELP)
 }
 
-/// `why NAME [FILE]`
+/// `why [--bytes] NAME [FILE]`
 #[tactic(auto, unfolding(crate::specs::CommandLine::why_app))]
 fn why_command<'a>(alloc: Global) -> Result<Command<'a>, AllocError>
     ensures app { IfOk result (λ command. app_of command ≡ spec.why_app) }
@@ -216,10 +224,11 @@ fn why_command<'a>(alloc: Global) -> Result<Command<'a>, AllocError>
         NAME,
         "The name of a submission: sender, receiver and number, as '0>1#2'",
     )?;
+    let command = with_flag(alloc, command, BYTES, BYTES_HELP)?;
     with_file(alloc, command, FILE_HELP)
 }
 
-/// `csv [FILE]`
+/// `csv [--bytes] [FILE]`
 #[tactic(auto, unfolding(crate::specs::CommandLine::csv_app))]
 fn csv_command<'a>(alloc: Global) -> Result<Command<'a>, AllocError>
     ensures app { IfOk result (λ command. app_of command ≡ spec.csv_app) }
@@ -231,10 +240,11 @@ fn csv_command<'a>(alloc: Global) -> Result<Command<'a>, AllocError>
         "Prints a row with commas for each poll",
         AFTER_CSV,
     );
+    let command = with_flag(alloc, command, BYTES, BYTES_HELP)?;
     with_file(alloc, command, FILE_HELP)
 }
 
-/// `gantt [--core D] [--from N] [--to N] [FILE]`
+/// `gantt [--core D] [--from N] [--to N] [--bytes] [FILE]`
 #[tactic(auto, unfolding(crate::specs::CommandLine::gantt_app))]
 fn gantt_command<'a>(alloc: Global) -> Result<Command<'a>, AllocError>
     ensures app { IfOk result (λ command. app_of command ≡ spec.gantt_app) }
@@ -255,10 +265,11 @@ fn gantt_command<'a>(alloc: Global) -> Result<Command<'a>, AllocError>
     )?;
     let command = with_option(alloc, command, FROM, "N", "The first turn that is drawn")?;
     let command = with_option(alloc, command, TO, "N", "The last turn that is drawn")?;
+    let command = with_flag(alloc, command, BYTES, BYTES_HELP)?;
     with_file(alloc, command, FILE_HELP)
 }
 
-/// `lag [--text] [FILE]`
+/// `lag [--text] [--bytes] [FILE]`
 #[tactic(auto, unfolding(crate::specs::CommandLine::lag_app))]
 fn lag_command<'a>(alloc: Global) -> Result<Command<'a>, AllocError>
     ensures app { IfOk result (λ command. app_of command ≡ spec.lag_app) }
@@ -276,10 +287,11 @@ fn lag_command<'a>(alloc: Global) -> Result<Command<'a>, AllocError>
         TEXT,
         "Prints a line for each pair of queues, and no picture",
     )?;
+    let command = with_flag(alloc, command, BYTES, BYTES_HELP)?;
     with_file(alloc, command, FILE_HELP)
 }
 
-/// `trace [FILE]`
+/// `trace [--bytes] [FILE]`
 #[tactic(auto, unfolding(crate::specs::CommandLine::trace_app))]
 fn trace_command<'a>(alloc: Global) -> Result<Command<'a>, AllocError>
     ensures app { IfOk result (λ command. app_of command ≡ spec.trace_app) }
@@ -291,5 +303,6 @@ fn trace_command<'a>(alloc: Global) -> Result<Command<'a>, AllocError>
         "Prints the run in the trace event format, for Perfetto and chrome://tracing",
         AFTER_TRACE,
     );
+    let command = with_flag(alloc, command, BYTES, BYTES_HELP)?;
     with_file(alloc, command, FILE_HELP)
 }

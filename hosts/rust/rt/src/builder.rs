@@ -1,7 +1,7 @@
 //! How an executor is made, runs and ends.
 
 use crate::barrier::Barrier;
-use crate::journal::{judge, parts, Journal, Notes, Taker};
+use crate::journal::{judge, parts, takers, Journal, Notes, Taker};
 use crate::local::Job;
 use crate::pin::Pin;
 use crate::report::Report;
@@ -10,7 +10,7 @@ use crate::shared::{Handle, Port, Queue, QueueSetup, Shared};
 use crate::signal::Stops;
 use crate::stop::{Ending, Failure};
 use crate::Error;
-use fairexec::linked::{Config, Core, House, Outside};
+use fairexec::linked::{Config, Core, Form, House, Outside};
 use fairexec::Mode;
 use std::future::Future;
 use std::panic::resume_unwind;
@@ -244,9 +244,9 @@ impl Builder {
         let journal = self.setup.journal.clone();
         self.check()?;
         let notes = self.notes.unwrap_or_else(|| journal.notes(self.places));
-        let config = Config { cores: self.cores, places: self.places, burst: self.burst, notes, journal: journal.linked(), ..Config::default() };
+        let config = Config { cores: self.cores, places: self.places, burst: self.burst, notes, journal: journal.linked(), form: Form::Bytes };
         let (house, mut cores, mut outside) = House::open(&config)?;
-        self.setup.takers = (0..=self.cores).map(|it| Taker::new(&journal, it)).collect::<Result<_, _>>()?;
+        self.setup.takers = takers(&journal, &config)?;
         outside.keep(&self.setup.takers[self.cores as usize]);
         let ports = cores.iter_mut().map(|it| Port::new(it.ringer(), it.shared_stats())).collect();
         let (queues, ending) = (std::mem::take(&mut self.queues), Ending::new(self.cores));
@@ -292,7 +292,7 @@ impl Builder {
         shared: &Shared,
         journal: &Journal,
     ) -> Result<Report, Error> {
-        outside.hand_on(&self.setup.takers[self.cores as usize], &mut Vec::new())?;
+        outside.hand_on(&self.setup.takers[self.cores as usize])?;
         let newest = cores.iter_mut().map(|it| it.newest_of(journal)).chain([outside.newest_of(journal)]);
         let newest = newest.filter_map(Result::transpose).collect::<Result<_, _>>()?;
         let journals = house.end(cores, outside).map_err(|(error, ..)| error)?;

@@ -1,7 +1,6 @@
 //! The loop of a core: what was woken goes into its queues, the library tells what runs, and a core that has nothing to do sleeps.
 
 use crate::builder::Setup;
-use crate::journal::Notes;
 use crate::local::{Job, Local, Sending};
 use crate::Error;
 use fairexec::linked::{Answer, Core, Cx, Outcome, Step, Ticket};
@@ -13,9 +12,6 @@ use std::time::Duration;
 
 /// A core that has work tells its statistics after so many nanoseconds.
 const SHOWN_EVERY: u64 = 20_000_000;
-
-/// Behind so many runs a journal that isn't kept is handed on: that takes some 50 µs, in which nothing else goes on.
-const HANDED_EVERY: u32 = 32;
 
 /// How long a core sleeps if the library allows so much. Under `--cfg long_sleep`, by which `tests/rt` compiles, it is longer than any test waits,
 /// so that a ring that is lost shows.
@@ -93,8 +89,6 @@ pub(crate) struct Driver<'a> {
     core: &'a mut Core<Job>,
     setup: &'a Setup,
     own: Own,
-    // Room for the text of notes.
-    text: Vec<u8>,
 }
 
 /// One run of a job.
@@ -142,7 +136,7 @@ fn tell_slow(local: &Local, queue: u32, setup: &Setup) {
 impl<'a> Driver<'a> {
     pub(crate) fn new(local: &'a Local, core: &'a mut Core<Job>, setup: &'a Setup) -> Driver<'a> {
         let own = Own::new(local.ready.len(), local.shared.places);
-        Driver { local, core, setup, own, text: Vec::new() }
+        Driver { local, core, setup, own }
     }
 
     /// Runs tasks until the executor closes, or until the core fails: then it tells the others, and hands back whatever is inside.
@@ -202,10 +196,6 @@ impl<'a> Driver<'a> {
         did |= self.core.round(|job, cx| run(local, job, cx, own, setup))?;
         self.redeem_own()?;
         did |= self.redeem_sent()?;
-        if local.runs.get() >= HANDED_EVERY {
-            local.runs.set(0);
-            self.core.hand_on(&setup.takers[local.number as usize], &mut self.text)?;
-        }
         Ok(did)
     }
 

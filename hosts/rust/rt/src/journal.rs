@@ -2,7 +2,7 @@
 
 use crate::shared::lock;
 use crate::Error;
-use fairexec::linked::{self, Core, Journals, Outside, Verdict};
+use fairexec::linked::{self, Config, Core, Journals, Outside, Verdict};
 use std::fs::{create_dir_all, File};
 use std::io::{self, Write};
 use std::path::PathBuf;
@@ -10,8 +10,8 @@ use std::sync::{Arc, Mutex};
 
 /// What becomes of the notes that each core makes of what it did.
 ///
-/// A note costs the same in each case, some nanoseconds. Its text takes some 250 more, which `Parts` pays for each note. `Last` pays it for as many notes
-/// as stay, once for each half of the journal that is filled: with the room that it has at first, one note of 16. `Off` and `Keep` don't pay it.
+/// A note costs the same in each case, some nanoseconds. `Parts` pays some 50 more for its bytes. Its text takes some 250, which `Last` pays for as
+/// many notes as stay, once for each half of the journal that is filled: with the room that it has at first, one note of 16.
 ///
 /// ```
 /// use fairexec_rt::{yield_now, Executor, Journal};
@@ -31,8 +31,8 @@ pub enum Journal {
     /// So many of the newest notes of each actor are kept, and told by the [`Report`](crate::Report), for a look after an incident. They are the end of
     /// a journal, which no audit judges.
     Last(usize),
-    /// They go to the files `part0`, `part1` and so on in this folder, one for each core and the last for the outside actor. The file `rest` has
-    /// the three lines that belong around them: docs/EMBEDDING.md says how `fairexec audit` judges the joined text.
+    /// They go in bytes to the files `part0`, `part1` and so on in this folder, one for each core and the last for the outside actor. The file `head`
+    /// has what stands before them: all of them, joined in this order, are the journals, which `fairexec audit --bytes` judges.
     Parts(PathBuf),
     /// They are kept, audited at the end, and told by the [`Report`](crate::Report). The run ends with `JournalFull` once a core made as many notes as
     /// [`Builder::notes`](crate::Builder::notes) says.
@@ -70,28 +70,24 @@ struct Part {
     bytes: u64,
 }
 
-/// Takes the notes of an actor, if its journal goes to a file: when that is full, and behind so many runs.
+/// Takes the notes of an actor, if its journal goes to a file.
 #[derive(Clone)]
 pub(crate) struct Taker(Arc<Mutex<Part>>);
 
 impl Taker {
-    /// The taker of this actor, or none if its notes go to no file.
-    pub(crate) fn new(journal: &Journal, actor: u32) -> Result<Option<Taker>, Error> {
-        let Journal::Parts(folder) = journal else { return Ok(None) };
-        create_dir_all(folder)?;
-        let file = File::create(folder.join(format!("part{actor}")))?;
-        Ok(Some(Taker(Arc::new(Mutex::new(Part { file, failed: None, bytes: 0 })))))
+    fn new(file: File) -> Taker {
+        Taker(Arc::new(Mutex::new(Part { file, failed: None, bytes: 0 })))
     }
 
-    pub(crate) fn take(&self, text: &[u8]) {
+    pub(crate) fn take(&self, bytes: &[u8]) {
         let part = &mut *lock(&self.0);
-        part.bytes += text.len() as u64;
-        if let Err(error) = part.file.write_all(text) {
+        part.bytes += bytes.len() as u64;
+        if let Err(error) = part.file.write_all(bytes) {
             part.failed.get_or_insert(error);
         }
     }
 
-    /// How many bytes of text it took.
+    /// How many bytes it took.
     pub(crate) fn bytes(&self) -> u64 {
         lock(&self.0).bytes
     }
@@ -104,25 +100,34 @@ impl Taker {
     }
 }
 
+/// Who takes the notes of each actor, or nobody if they go to no file. What stands before them is written.
+pub(crate) fn takers(journal: &Journal, config: &Config) -> Result<Vec<Option<Taker>>, Error> {
+    let Journal::Parts(folder) = journal else { return Ok(vec![None; config.cores as usize + 1]) };
+    create_dir_all(folder)?;
+    let files = parts(journal, config.cores);
+    std::fs::write(&files[0], config.head())?;
+    files[1..].iter().map(|it| Ok(Some(Taker::new(File::create(it)?)))).collect()
+}
+
 /// The calls of a core and of the outside actor that journals want.
 pub(crate) trait Notes {
     fn keep_notes_by(&mut self, takes: impl FnMut(&[u8]) + Send + 'static);
-    fn pass_on(&mut self, text: &mut Vec<u8>) -> Result<(), fairexec::Error>;
+    fn pass_on(&mut self, bytes: &mut Vec<u8>) -> Result<(), fairexec::Error>;
     fn newest(&mut self, most: u64, text: &mut Vec<u8>) -> Result<u64, fairexec::Error>;
 
     /// From now on this taker has the notes.
     fn keep(&mut self, taker: &Option<Taker>) {
         if let Some(taker) = taker.clone() {
-            self.keep_notes_by(move |text| taker.take(text));
+            self.keep_notes_by(move |bytes| taker.take(bytes));
         }
     }
 
-    /// Hands on what the journal has now. `text` is room for it.
-    fn hand_on(&mut self, taker: &Option<Taker>, text: &mut Vec<u8>) -> Result<(), fairexec::Error> {
+    /// Hands on what the journal has at the end.
+    fn hand_on(&mut self, taker: &Option<Taker>) -> Result<(), fairexec::Error> {
         let Some(taker) = taker else { return Ok(()) };
-        text.clear();
-        self.pass_on(text)?;
-        taker.take(text);
+        let mut bytes = Vec::new();
+        self.pass_on(&mut bytes)?;
+        taker.take(&bytes);
         Ok(())
     }
 
@@ -140,8 +145,8 @@ impl<J> Notes for Core<J> {
         Core::keep_notes_by(self, takes);
     }
 
-    fn pass_on(&mut self, text: &mut Vec<u8>) -> Result<(), fairexec::Error> {
-        Core::pass_on(self, text)
+    fn pass_on(&mut self, bytes: &mut Vec<u8>) -> Result<(), fairexec::Error> {
+        Core::pass_on(self, bytes)
     }
 
     fn newest(&mut self, most: u64, text: &mut Vec<u8>) -> Result<u64, fairexec::Error> {
@@ -154,8 +159,8 @@ impl<J> Notes for Outside<J> {
         Outside::keep_notes_by(self, takes);
     }
 
-    fn pass_on(&mut self, text: &mut Vec<u8>) -> Result<(), fairexec::Error> {
-        Outside::pass_on(self, text)
+    fn pass_on(&mut self, bytes: &mut Vec<u8>) -> Result<(), fairexec::Error> {
+        Outside::pass_on(self, bytes)
     }
 
     fn newest(&mut self, most: u64, text: &mut Vec<u8>) -> Result<u64, fairexec::Error> {
@@ -163,20 +168,18 @@ impl<J> Notes for Outside<J> {
     }
 }
 
-/// The files of this journal, of so many cores.
+/// The files of this journal, of so many cores, in their order.
 pub(crate) fn parts(journal: &Journal, cores: u32) -> Vec<PathBuf> {
     match journal {
-        Journal::Parts(folder) => (0..=cores).map(|it| folder.join(format!("part{it}"))).chain([folder.join("rest")]).collect(),
+        Journal::Parts(folder) => [folder.join("head")].into_iter().chain((0..=cores).map(|it| folder.join(format!("part{it}")))).collect(),
         Journal::Off | Journal::Last(_) | Journal::Keep => Vec::new(),
     }
 }
 
-/// The verdict and the text of journals that were kept. The lines around parts are written.
+/// The verdict and the text of journals that were kept.
 pub(crate) fn judge(journal: &Journal, mut journals: Journals) -> Result<(Option<Verdict>, Option<String>), Error> {
     match journal {
-        Journal::Keep => return Ok((Some(journals.audit()?), Some(journals.text()?))),
-        Journal::Parts(folder) => std::fs::write(folder.join("rest"), journals.text()?)?,
-        Journal::Off | Journal::Last(_) => {}
+        Journal::Keep => Ok((Some(journals.audit()?), Some(journals.text()?))),
+        Journal::Off | Journal::Last(_) | Journal::Parts(_) => Ok((None, None)),
     }
-    Ok((None, None))
 }

@@ -65,8 +65,6 @@ pub(crate) struct Local {
     /// When the run began that goes on, and the slice of its queue.
     pub(crate) began: Cell<u64>,
     pub(crate) slice: Cell<u64>,
-    /// Runs since the journal was handed on.
-    pub(crate) runs: Cell<u32>,
     /// By the core.
     pub(crate) outbox: Vec<RefCell<VecDeque<Sending>>>,
     pub(crate) sent: Vec<RefCell<Sent>>,
@@ -115,7 +113,6 @@ impl Local {
             again: RefCell::default(),
             began: Cell::new(0),
             slice: Cell::new(0),
-            runs: Cell::new(0),
             outbox: (0..cores).map(|_| RefCell::default()).collect(),
             sent: (0..cores).map(|_| RefCell::new(sent())).collect(),
             stopping: RefCell::default(),
@@ -156,7 +153,6 @@ impl Local {
 
     /// A run of the library begins.
     pub(crate) fn begin(&self, queue: u32) {
-        self.runs.set(self.runs.get() + 1);
         self.began.set(wall_clock());
         self.slice.set(self.shared.queues[queue as usize].slice);
     }

@@ -25,7 +25,7 @@ pub struct CoreStats {
     pub tasks: u64,
     /// Its queues, by their numbers.
     pub queues: Vec<QueueStats>,
-    /// Bytes of its journal that were passed on as text.
+    /// Bytes of its journal that went to a file.
     pub journal_bytes: u64,
 }
 
@@ -77,8 +77,7 @@ pub struct Report {
     /// The newest notes of each core, and behind them those of the outside actor, if these were asked for
     /// ([`Journal::Last`](crate::Journal::Last)).
     pub newest: Vec<String>,
-    /// The files that have the notes of each core, and behind them those of the outside actor and the lines around all, if these were asked for
-    /// ([`Journal::Parts`](crate::Journal::Parts)).
+    /// The files that are the journals once they are joined in this order, if these were asked for ([`Journal::Parts`](crate::Journal::Parts)).
     pub parts: Vec<PathBuf>,
 }
 

@@ -144,7 +144,7 @@ where
         }
         driver.run()
     })?;
-    core.hand_on(&setup.takers[number as usize], &mut Vec::new())?;
+    core.hand_on(&setup.takers[number as usize])?;
     failing.0 = None;
     Ok(core)
 }

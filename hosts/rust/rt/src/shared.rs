@@ -77,7 +77,7 @@ pub(crate) struct Port {
     // None once the core has ended.
     mail: Mutex<Option<Vec<Mail>>>,
     stats: Stats,
-    /// What the library doesn't count: tasks that haven't ended, and bytes of the journal that were passed on.
+    /// What the library doesn't count: tasks that haven't ended, and bytes of the journal that went to a file.
     pub(crate) tasks: AtomicU64,
     pub(crate) journal_bytes: AtomicU64,
 }

@@ -250,11 +250,18 @@ fn parts_have_every_note() {
         }
     });
     let report = report.unwrap();
-    for part in 0..2 {
-        let text = std::fs::read_to_string(folder.join(format!("part{part}"))).unwrap();
-        assert!(text.ends_with('\n') && text.lines().count() > 1500);
-        assert!(report.cores[part].journal_bytes <= text.len() as u64);
+    let files: Vec<_> = report.parts.iter().map(|it| std::fs::read(it).unwrap()).collect();
+    assert_eq!((files.len(), files[0].as_slice()), (4, b"fxh1\x02\x01\x00\x02".as_slice()));
+    for core in 0..2 {
+        let (mut rest, mut notes) = (files[core + 1].as_slice(), 0);
+        assert!(report.cores[core].journal_bytes <= rest.len() as u64);
+        // A part says whose it is, how many notes came before, how many it has, and how many bytes these have.
+        while !rest.is_empty() {
+            let [before, count, size] = [5, 13, 21].map(|at| u64::from_le_bytes(rest[at..at + 8].try_into().unwrap()));
+            assert!(rest[..5] == *b"fxp1".iter().chain(&[core as u8]).copied().collect::<Vec<_>>() && before == notes && count > 0);
+            (notes, rest) = (notes + count, &rest[45 + size as usize..]);
+        }
+        assert!(notes > 1500);
     }
-    assert_eq!(std::fs::read_to_string(folder.join("rest")).unwrap().lines().count(), 3);
     std::fs::remove_dir_all(folder).unwrap();
 }

@@ -1,5 +1,5 @@
 use Rattle.fairview_args.proofs.Lines.{our_is_read}
-use Rattle.fairview_args.proofs.asked.WhatWanted.command.Goals as goal
+use Rattle.fairview_args.proofs.asked.RequestWanted.command.Goals as goal
 
 pub returns-clause-read : goal.returns-clause-read
 returns-clause-read c = our_is_read

@@ -1,0 +1,44 @@
+-- Small cases of bytes that no command line may show.
+use Rattle.std.specs.Prelude.{◌≡◌, ◌∷◌, [], ℕ, List, Some, None}
+use Rattle.std.proofs.Common.{inl, inr}
+use Rattle.fairview_report.specs.declared.view.View.TheVariants.{Polls}
+use Rattle.text_parts.specs.Faults.{bytes_status}
+use Rattle.text_parts.specs.Houses.{house_at}
+use Rattle.text_parts.specs.Wholes.{MakesText}
+use Rattle.text_parts.specs.declared.fault.BytesFault.{BytesFault}
+use Rattle.text_parts.specs.declared.fault.BytesFault.TheVariants as bytes
+use Rattle.text_parts.specs.declared.parts.HouseNumbers.{HouseNumbers}
+use Rattle.text_words.specs.declared.status.Status.{Status}
+use Rattle.text_words.specs.declared.status.Status.TheVariants as status
+use Rattle.fairview.specs.Answers.{file_reads}
+use Rattle.fairview.specs.BadEnds.{list_writes}
+use Rattle.fairview.specs.Bytes.{ShowsBytes}
+
+-- these bytes are the source, these stand in the sink before, and these behind it
+abbrev pub BytesIn : List ℕ → List ℕ → List ℕ → Status → Type 0
+BytesIn source old new result =
+    ShowsBytes {R = List ℕ} {F = List ℕ} {S = List ℕ} (record { source = file_reads Some; file = Some; sink = list_writes }) (record { source_old = source; source_new = []; sink_old = old; sink_new = new }) None Polls result
+
+no_house : (house : HouseNumbers) (behind : List ℕ) → house_at [] ≡ Some (house, behind) → ⊥
+unfolding house_at
+no_house house behind is = cc
+
+-- no bytes are journals
+pub no_bytes_have_a_text : (all : List ℕ) → MakesText all [] → ⊥
+no_bytes_have_a_text all makes = no_house _ _ makes.2.1.numbers
+
+not_done_by : (why : BytesFault) → status.Done ≡ bytes_status why → ⊥
+not_done_by (bytes.Faulty place cause) is = cc
+not_done_by bytes.Read is = cc
+not_done_by bytes.Write is = cc
+not_done_by bytes.Memory is = cc
+
+-- and yet they are shown
+pub no_bytes_are_shown : (old new : List ℕ) → BytesIn [] old new status.Done → ⊥
+no_bytes_are_shown old new (inl shown) = no_bytes_have_a_text shown.0 shown.1.told
+no_bytes_are_shown old new (inr refused) = not_done_by refused.0 refused.2
+
+-- something is written although bytes have no text
+pub faulty_bytes_are_written : (result : Status) → BytesIn [] [] (1 ∷ []) result → ⊥
+faulty_bytes_are_written result (inl shown) = no_bytes_have_a_text shown.0 shown.1.told
+faulty_bytes_are_written result (inr refused) = cc refused.3
