@@ -1,5 +1,17 @@
 // What fairexec_house.hpp adds to the calls: who owns a job, what comes back, and what two threads do with it.
 // The last line is 'N passed, M failed', and the status is 0 if nothing failed.
+#include "fairexec.h"
+
+// How many notes the wrapper's calls on this thread copied as text since somebody looked.
+static thread_local unsigned long copied;
+static uint32_t copy(fx_seat *seat, uint64_t from, uint64_t most, uint8_t *bytes, size_t room, uint64_t *count, uint64_t *notes) {
+    uint32_t code = fx_seat_copy(seat, from, most, bytes, room, count, notes);
+    if (code == FX_OK) copied += static_cast<unsigned long>(*notes);
+    return code;
+}
+#undef fx_seat_copy
+#define fx_seat_copy ::copy
+
 #include "fairexec_house.hpp"
 #include <atomic>
 #include <cstdio>
@@ -330,6 +342,7 @@ static void no_call_hands_on_many() {
     linked::house<counted> house({1, 4, 1, 1u << 16});
     auto &core = house.cores[0];
     uint64_t kept = 0, free_notes = 0;
+    unsigned long most_copied = 0;
     long now = 0, most = 0;
     std::string all;
     auto jobs = [&](unsigned long count) {
@@ -337,9 +350,12 @@ static void no_call_hands_on_many() {
         for (unsigned long number = 0; number < count; number++) {
             bool did = false;
             auto sent = house.outside.submit(0, 0, counted(number));
+            copied = 0;
             right += core.deliver(did) == FX_OK && did;
-            now = 0;
+            most_copied = std::max(most_copied, copied);
+            copied = 0, now = 0;
             right += core.run_turn(twice) == FX_DONE;
+            most_copied = std::max(most_copied, copied);
             now = 0;
             right += house.outside.wait_for(*sent.ticket).answer == 2 * number;
         }
@@ -355,6 +371,7 @@ static void no_call_hands_on_many() {
     });
     is("more jobs are done", jobs(4000), 12000);
     is("some thousand notes at most go on at a time", most >= 256 && most <= 4096, 1);
+    is("and no call copies more than one of the library", most_copied, 128);
     is("soon nearly none is kept", core.notes_kept(kept, free_notes) == FX_OK && kept < 2048, 1);
     is("the rest goes out", core.pass_on(all), FX_OK);
     is("each went on once", static_cast<unsigned long>(std::count(all.begin(), all.end(), '\n')), 64000);
