@@ -33,7 +33,7 @@ module _ {J T : Type 0} where
         stays = record { desk = refl; places = refl; grows = ([], refl); workers = refl; room = refl; bells = refl; names = refl; watched = refl; marks = refl; tries = refl };
       })
 
-  stays_then : (old between new : RuntimeView J T) → StaysRunning old between → StaysRunning between new → StaysRunning old new
+  pub stays_then : (old between new : RuntimeView J T) → StaysRunning old between → StaysRunning between new → StaysRunning old new
   stays_then old between new first later = record {
     desk = later.desk ∙ ap (λ (desk : DeskView J T). record desk { journal = new.desk.journal; lanes = new.desk.lanes }) first.desk;
     places = later.places ∙ first.places;

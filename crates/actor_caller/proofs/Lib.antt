@@ -10,7 +10,10 @@ pub mod InARow
 pub mod Vain
 pub mod WaitedOnce
 pub mod OrdersBack
+pub mod Halls
+pub mod CallsMade
 mod Closing
+mod CallsRefused
 mod WaitsRefused
 mod SendsRefused
 mod TicketsRefused

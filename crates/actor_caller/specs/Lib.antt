@@ -1,6 +1,6 @@
-pub mod Teams
 pub mod Rings
 pub mod State
+pub mod Teams
 pub mod Closings
 pub mod Watching
 pub mod Stored
@@ -8,6 +8,8 @@ pub mod Passing
 pub mod Sends
 pub mod Tickets
 pub mod Waiting
+pub mod Halls
+pub mod Callers
 pub mod Errors
 pub mod Laws
 pub mod WaitingLaws

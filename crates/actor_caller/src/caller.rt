@@ -4,6 +4,7 @@ ghost use Rattle.std.specs.Prelude.{◌≡◌, false, length};
 ghost use Rattle.link_ends.specs.Fits.{Fits};
 ghost use Rattle.actor_caller.specs.Closings.{IsFirstOpenOf, TellsOpen};
 ghost use Rattle.actor_caller.specs.Stored.{IsHeld, IsRuntime, view_of};
+ghost use Rattle.actor_caller.specs.Teams.{IsBeside};
 ghost use Rattle.actor_caller.specs.Watching.{AreWatched};
 
 use crate::rings::Rings;
@@ -125,6 +126,46 @@ impl<J: Task<Out = u64>, S: Sink, H: Beside<Job = J>> Caller<J, S, H> {
             ..
         } = self;
         (outside, sink, house, watchers)
+    }
+
+    /// What stands beside the caller.
+    pub(crate) fn house(&self) -> &H
+        ensures { IsBeside (H.team result.now) self.now }
+    {
+        &self.house
+    }
+
+    /// The same caller beside workers that look the same. What stood beside it comes back.
+    pub(crate) fn with_house<K: Beside<Job = J>>(self, house: K) -> (Caller<J, S, K>, H)
+        requires { IsBeside (K.team house) self }
+        ensures same { result.0 ≡ self }
+        ensures beside { IsBeside (H.team result.1) self }
+    {
+        let Caller {
+            cores,
+            cap,
+            room,
+            outside,
+            sink,
+            refused,
+            bells,
+            closing,
+            watchers,
+            house: before,
+        } = self;
+        let caller = Caller {
+            cores,
+            cap,
+            room,
+            outside,
+            sink,
+            refused,
+            bells,
+            closing,
+            watchers,
+            house,
+        };
+        (caller, before)
     }
 
     /// How many cores the house has.

@@ -8,11 +8,14 @@ ghost use Rattle.actor_caller.specs.Waiting.{AreAllPending, CollectsEach, LooksO
 
 use crate::caller::{Beside, Caller};
 use crate::error::SubmitError;
+use crate::looker::Looker;
+use crate::rings::Waker;
+use crate::shared::Away;
 use actor_seat::{LastLook, OwnBell, Woken};
 use base_jobs::Task;
 use base_words::{ActorNo, CoreNo, Order, Outcome, SendError, Ticket, TicketError};
 use note_journal::Sink;
-use std::alloc::AllocError;
+use std::alloc::{AllocError, Global};
 use std::sync::Wait;
 
 /// How often a caller looks for outcomes before it parks.
@@ -55,6 +58,15 @@ impl<J: Task<Out = u64>, S: Sink, H: Beside<Job = J>> Caller<J, S, H> {
         ensures { IfOk result (λ own. IsBellOf self.now.desk.cores self.now.rung.names own) }
     {
         self.bells.own(ActorNo(self.cores))
+    }
+
+    /// The right to ring the caller's own bell.
+    ///
+    /// # Errors
+    ///
+    /// If there is no memory.
+    pub(crate) fn waker(&self, alloc: Global) -> Result<Waker, AllocError> {
+        self.bells.waker(alloc, ActorNo(self.cores))
     }
 
     /// Lies down on the caller's own bell, looks once more at all links, and parks until that bell rings if there was no outcome.
@@ -165,6 +177,19 @@ impl<J: Task<Out = u64>, S: Sink, H: Beside<Job = J>> Caller<J, S, H> {
             }
         }
         unreachable!()
+    }
+}
+
+impl<J: Task<Out = u64>, S: Sink, H: Beside<Job = J>> Caller<J, S, Away<H>> {
+    /// The caller's own bell, for a handle that leads to sleep on.
+    ///
+    /// # Errors
+    ///
+    /// If it is in too many hands.
+    pub(crate) fn bell_to_lead<R: Drop>(&self) -> Result<OwnBell<Looker<J, S, H, R>>, AllocError>
+        ensures { IfOk result (λ own. IsBellOf self.now.desk.cores self.now.rung.names own) }
+    {
+        self.bells.own_to_lead(ActorNo(self.cores))
     }
 }
 

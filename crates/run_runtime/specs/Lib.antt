@@ -8,6 +8,7 @@ pub mod Errors
 pub mod Finishing
 pub mod Laws
 pub mod SinkLaws
+pub use Rattle.actor_caller.specs.Callers
 pub use Rattle.actor_caller.specs.Closings
 pub use Rattle.actor_caller.specs.Passing
 pub use Rattle.actor_caller.specs.Rings

@@ -1,6 +1,7 @@
 //! The running threads: a worker for each core, and the outside actor whose calls the caller makes.
 #![tactic(auto)]
 
+pub mod callers;
 mod calls;
 pub mod error;
 mod finishing;
@@ -10,6 +11,8 @@ pub mod runtime;
 mod starting;
 mod starts;
 
+pub use actor_caller::{CallerTicket, HandleOut};
+pub use callers::{RuntimeCallers, RuntimeHandle};
 pub use error::{FinishError, StartError, SubmitError};
 pub use note_journal::{Refused, Sink, Whole};
 pub use passed::{ActorNotes, Passed};

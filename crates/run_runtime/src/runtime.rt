@@ -13,7 +13,7 @@ use std::marker::Model;
 
 /// The workers of a house on their threads, and room for what they and the caller give back.
 #[derive(Drop)]
-pub(crate) struct Crew<J: Task<Out = u64>, C: Drop, G: Drop, S: Sink> {
+pub struct Crew<J: Task<Out = u64>, C: Drop, G: Drop, S: Sink> {
     pub(crate) team: Team<Worker<J, C, G, S>>,
     // Empty, with room for what the workers and the caller give back.
     pub(crate) ends: Vec<Ends<J>>,
