@@ -4,6 +4,7 @@
 //! the journals together, which `audit` judges.
 #![tactic(auto)]
 
+pub mod callers;
 pub mod error;
 pub mod house;
 pub mod names;
@@ -21,6 +22,7 @@ pub use base_words::{
     ActorNo, Answer, CoreNo, JobId, Mode, Note, Order, Outcome, QueueNo, Reason, SendError, Shares,
     Ticket, TicketError,
 };
+pub use callers::{NodeCallers, NodeHandle};
 pub use error::{NotFinished, NotSubmitted, WaitError};
 pub use fairexec_report::{put_all_stats, put_stats};
 pub use house::{House, PlanError};
@@ -30,7 +32,8 @@ pub use node::Node;
 pub use note_journal::{Discard, Keep};
 pub use parts::Parts;
 pub use run_runtime::{
-    ActorNotes, Clock, FinishError, Gate, NoGate, Passed, Refused, Runtime, Sink, StartError,
-    SubmitError, SystemClock, Watcher, Whole,
+    ActorNotes, CallerTicket, Clock, FinishError, Gate, HandleOut, NoGate, Passed, Refused,
+    Runtime, RuntimeCallers, RuntimeHandle, Sink, StartError, SubmitError, SystemClock, Watcher,
+    Whole,
 };
 pub use work::{Plain, Work};

@@ -77,6 +77,18 @@ impl<J: Task<Out = u64>, C: Drop, G: Drop, S: Sink> Node<J, C, G, S> {
         };
         Err(NotFinished { error })
     }
+
+    /// How many cores it has, their runtime, and the names of their queues.
+    pub(crate) fn into_parts(self) -> (u8, Runtime<J, C, G, S>, QueueNames)
+        ensures { (result.0 ≡ self.cores) × (result.1 ≡ self.runtime) × (result.2 ≡ self.names) }
+    {
+        let Node {
+            cores,
+            runtime,
+            names,
+        } = self;
+        (cores, runtime, names)
+    }
 }
 
 /// Closes a core, if it lets itself be closed.
