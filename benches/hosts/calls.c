@@ -1,8 +1,8 @@
 /*
  * The longest that each call of the library on a seat may take at the defaults of the wrappers: calls [ROUNDS [NAME]]. A house of one core has 64 places on a
  * link and journals of 2^20 notes; the core has 256 queues and as many jobs inside as the links carry. Each line has a call in the state in which it has the
- * most to do, the middle and the longest of so many rounds (9) in microseconds. NAME measures one alone. Before a NAME with a minus nothing is called:
- * what the two differ by, counted by valgrind, are the call's instructions.
+ * most to do, the middle and the longest of so many rounds (9) in microseconds. NAME measures one alone. With -NAME all is made for it and it isn't called:
+ * the two differ by the call, so valgrind tells its instructions.
  */
 #define _POSIX_C_SOURCE 200809L
 #include "fairexec.h"
@@ -84,11 +84,6 @@ static void closed(void) { inside(), must(fx_seat_close(&core, FX_MODE_RETURN), 
 static void sent(void) { must(fx_seat_submit(&outside, 0, 255, 7, &names[0]), FX_OK); }
 static void woken(void) { parked(), must(fx_seat_collect(&core, 0, &count), FX_OK); }
 static void collected(void) { done(), must(fx_seat_collect(&outside, 0, &count), FX_OK); }
-static void wakes(void) {
-    fx_name name;
-    parked();
-    must(fx_seat_close_core(&outside, 0, FX_MODE_RETURN, &name), FX_FULL);
-}
 static void empty(void) {}
 
 static void submit(void) { must(fx_seat_submit(&outside, 0, 0, 7, &names[0]), FX_OK); }

@@ -127,7 +127,12 @@ impl All {
         let (before, now) = (self.look.borrow().unwrap_or_else(Look::now), Look::now());
         let took = took as f64 / self.rate.get();
         let off = now.wall.duration_since(before.wall).as_secs_f64() * 1e6 - (now.ran - before.ran);
-        seen.longs.borrow_mut().push(Long { took, off: off.clamp(0.0, took), switches: now.switches - before.switches, faults: now.faults - before.faults });
+        seen.longs.borrow_mut().push(Long {
+            took,
+            off: off.clamp(0.0, took),
+            switches: now.switches - before.switches,
+            faults: now.faults - before.faults,
+        });
     }
 
     fn tell(&self, kind: usize) {
@@ -141,7 +146,12 @@ impl All {
         let taken = longs.iter().filter(|it| it.took - it.off < LONG).count();
         let mean = seen.ticks.get() as f64 / self.rate.get() / seen.count.get() as f64;
         let Long { took, off, switches, faults } = longest;
-        println!("{:18} {:12} {mean:8.3} {:8} {taken:8} {took:10.1} {ran:10.1} {off:10.1} {switches:6} {faults:6}", NAMES[kind], seen.count.get(), longs.len());
+        println!(
+            "{:18} {:12} {mean:8.3} {:8} {taken:8} {took:10.1} {ran:10.1} {off:10.1} {switches:6} {faults:6}",
+            NAMES[kind],
+            seen.count.get(),
+            longs.len()
+        );
     }
 }
 
@@ -258,7 +268,11 @@ fn run(turns: u64, name: &str) -> Result<bool, Error> {
                 core.run_turn(|runs, _| {
                     *runs -= 1;
                     job = *runs / BY;
-                    if *runs % BY == 0 { Step::Done(0) } else { Step::Yield }
+                    if *runs % BY == 0 {
+                        Step::Done(0)
+                    } else {
+                        Step::Yield
+                    }
                 })
             })?;
             if turn == Turn::Done {
@@ -280,7 +294,10 @@ fn main() -> Result<(), Error> {
     let began = Instant::now();
     assert!(run(turns.parse().expect("a number of turns"), name)?, "NAME is text, bytes, last or none");
     println!("{name}: {turns} turns, and the control, in {:.0} s", began.elapsed().as_secs_f64());
-    println!("{:18} {:>12} {:>8} {:>8} {:>8} {:>10} {:>10} {:>10} {:>6} {:>6}", "call", "calls", "mean us", "over 50", "not run", "longest", "ran", "off then", "switch", "faults");
+    println!(
+        "{:18} {:>12} {:>8} {:>8} {:>8} {:>10} {:>10} {:>10} {:>6} {:>6}",
+        "call", "calls", "mean us", "over 50", "not run", "longest", "ran", "off then", "switch", "faults"
+    );
     ALL.with(|all| (0..KINDS).for_each(|kind| all.tell(kind)));
     Ok(())
 }
