@@ -1,5 +1,5 @@
 -- What the answer of a reader of bytes tells.
-use Rattle.std.proofs.Common.{◌≡◌, ◌⊎◌, inl, ℕ, List, Option, Result, Ok, Err, IfErr, IfOk}
+use Rattle.std.proofs.Common.{◌≡◌, ◌⊎◌, inl, ℕ, List, Result, Ok, Err, IfErr, IfOk}
 use Rattle.std.specs.Option.{IfSome}
 use Rattle.std.specs.Io.KnownBytes.{IsAtEnd}
 use Rattle.text_bytes.specs.Tries.{HasFailedSince}

@@ -1,5 +1,5 @@
 -- How a command line ends.
-use Rattle.std.specs.Prelude.{◌≡◌, ◌⊎◌, ℕ, Bool, List, [], Option, Some, None, Result, Ok, Err}
+use Rattle.std.specs.Prelude.{◌≡◌, ◌⊎◌, ℕ, Bool, List, [], Option, Some, Result, Ok, Err}
 use Rattle.clap.specs.Kinds.{Kinds}
 use Rattle.fair_args.specs.Asks.{Asking}
 use Rattle.fair_args.specs.Refusals.{IsReason}

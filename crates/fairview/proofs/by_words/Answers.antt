@@ -1,4 +1,4 @@
-use Rattle.std.proofs.Common.{inl, map, option_map, refl, string_bytes}
+use Rattle.std.proofs.Common.{inl, map, refl, string_bytes}
 use Rattle.clap.specs.Words.{fault_of}
 use Rattle.fair_args.specs.Asks.{asks_of}
 use Rattle.fairview_args.specs.Asks.{request_named}
