@@ -6,8 +6,8 @@ use Rattle.std.proofs.lemmas.List.{append_cancel_right, length-reverse}
 use Rattle.base_words.specs.declared.note.Note.{Note}
 use Rattle.base_words.specs.Journal.{Journal}
 use Rattle.note_journal.specs.Journals.{JournalView}
-use Rattle.text_journal.specs.HouseLaws.{parts_bytes}
-use Rattle.text_journal.specs.Parts.{PartView, part_bytes}
+use Rattle.text_parts.specs.HouseLaws.{parts_bytes}
+use Rattle.text_parts.specs.Parts.{PartView, part_bytes}
 use Rattle.host_text.specs.declared.part.Form.TheVariants.{Bytes}
 use Rattle.host_text.specs.BytesLaws.{BytesFollow, Follow, IsFrontInBytes}
 use Rattle.host_text.specs.Pieces.{IsPiece}

@@ -6,8 +6,8 @@ use Rattle.base_words.specs.declared.note.Note.{Note}
 use Rattle.base_words.specs.declared.note.Note.TheVariants.{CoreClosed}
 use Rattle.base_words.specs.declared.order.Mode.TheVariants.{Finish, Return}
 use Rattle.note_journal.specs.Journals.{JournalView}
-use Rattle.text_journal.specs.NoteBytes.{wide}
-use Rattle.text_journal.specs.Parts.{part_bytes}
+use Rattle.text_parts.specs.NoteBytes.{wide}
+use Rattle.text_parts.specs.Parts.{part_bytes}
 use Rattle.host_text.specs.declared.part.Form.TheVariants.{Bytes}
 use Rattle.host_text.specs.Pieces.{IsPiece}
 

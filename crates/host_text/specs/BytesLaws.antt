@@ -3,8 +3,8 @@ use Rattle.std.specs.Prelude.{◌≡◌, ℕ, ◌+◌, ◌≤◌, List, [], ◌�
 use Rattle.base_words.specs.declared.note.Note.{Note}
 use Rattle.base_words.specs.Journal.{Journal}
 use Rattle.note_journal.specs.Journals.{JournalView}
-use Rattle.text_journal.specs.HouseLaws.{parts_bytes}
-use Rattle.text_journal.specs.Parts.{PartView}
+use Rattle.text_parts.specs.HouseLaws.{parts_bytes}
+use Rattle.text_parts.specs.Parts.{PartView}
 use Rattle.host_text.specs.declared.part.Form.TheVariants.{Bytes}
 use Rattle.host_text.specs.Pieces.{IsPiece}
 

@@ -4,7 +4,7 @@ use Rattle.base_words.specs.declared.note.Note.{Note}
 use Rattle.base_words.specs.Journal.{Journal}
 use Rattle.text_words.specs.Notes.{note_line}
 use Rattle.note_journal.specs.Journals.{JournalView, passed_all}
-use Rattle.text_journal.specs.Parts.{part_bytes}
+use Rattle.text_parts.specs.Parts.{part_bytes}
 use Rattle.text_journal.specs.Texts.{text_of}
 use Rattle.host_text.specs.declared.part.Form.{Form}
 use Rattle.host_text.specs.declared.part.Form.TheVariants.{Text, Bytes}

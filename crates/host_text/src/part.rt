@@ -2,7 +2,7 @@
 
 ghost use Rattle.std.specs.Prelude.{◌≡◌, ◌-◌, ◌<◌, ◌++◌, ◌^◌, IfOk, OnOk, codes, drop, length, map, min, string_bytes, take};
 ghost use Rattle.text_words.specs.Notes.{note_line};
-ghost use Rattle.text_journal.specs.Parts.{part_bytes};
+ghost use Rattle.text_parts.specs.Parts.{part_bytes};
 ghost use Rattle.text_journal.specs.Texts.{text_of};
 ghost use Rattle.host_text.specs.Parts.{CopiesAll, CopiesPart};
 ghost use Rattle.host_text.specs.Pieces.{CopiesPiece, in_form, piece_told};
@@ -10,7 +10,7 @@ ghost use Rattle.host_text.specs.Pieces.{CopiesPiece, in_form, piece_told};
 use base_words::{ActorNo, Note};
 use note_journal::RunningJournal;
 use std::alloc::{AllocError, Global};
-use text_journal::part::put_part;
+use text_parts::part::put_part;
 use text_words::NoteLine;
 
 /// Why nothing was handed on. Nothing changed.

@@ -15,3 +15,11 @@ pub mod LinkTables
 pub mod NumberSteps
 pub mod Reached
 pub mod ToldNames
+pub mod Bounds
+pub mod OpenTurns
+pub mod PickLines
+pub mod PickSteps
+pub mod Placings
+pub mod RightPicks
+pub mod WaitingSteps
+pub mod Winners

@@ -27,9 +27,9 @@ pub use Rattle.judge_audit.specs.Sides.{AreEven, name_collected, name_given, nam
 pub use Rattle.judge_audit.specs.Verdicts.{BreaksRule, IsFirstBroken, IsVerdict, KeepsRulesBefore, rule_named}
 pub use Rattle.judge_audit.specs.declared.judge.Verdict.{Verdict}
 pub use Rattle.judge_audit.specs.declared.order.Numbers.{Numbers}
-pub use Rattle.judge_picks.proofs.PickLines.{pick_breaks}
-pub use Rattle.judge_picks.specs.PickFaults.{IsCutOff, IsPickFault, IsUnfollowed, IsWrongNote}
-pub use Rattle.judge_picks.specs.Picks.{Follows}
+pub use Rattle.judge_audit.proofs.PickLines.{pick_breaks}
+pub use Rattle.judge_audit.specs.PickFaults.{IsCutOff, IsPickFault, IsUnfollowed, IsWrongNote}
+pub use Rattle.judge_audit.specs.Picks.{Follows}
 pub use Rattle.note_facts.proofs.AllAccounts.{has_nobody, is_empty}
 pub use Rattle.note_facts.proofs.FirstFaults.{each_before, fault_breaks}
 pub use Rattle.note_facts.proofs.FirstUnder.{first_under-with_last, next_order, next_outcome, under-order}

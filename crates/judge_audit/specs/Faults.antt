@@ -3,7 +3,7 @@ use Rattle.std.specs.Prelude.{◌≡◌, ℕ, ◌+◌, ◌<◌, ◌⊎◌, Some}
 use Rattle.base_words.specs.Assembly.{Assembly, journal_of}
 use Rattle.base_words.specs.Clauses.{StartsRight, RespectsCloses, OutcomesRight}
 use Rattle.note_facts.specs.Faults.{IsFirstFault}
-use Rattle.judge_picks.specs.PickFaults.{IsPickFault}
+use Rattle.judge_audit.specs.PickFaults.{IsPickFault}
 use Rattle.judge_audit.specs.OrderFaults.{IsLeast, OrderOff}
 use Rattle.judge_audit.specs.Places.{StartsOf, IsInOrder, ClosesOf, LosesNothing, OutcomesOf, PicksOf}
 

@@ -1,3 +1,8 @@
+pub mod OpenTurns
+pub mod PickFaults
+pub mod Picks
+pub mod Waiting
+pub mod Winners
 pub mod Ends
 pub mod Places
 pub mod OrderFaults

@@ -17,10 +17,10 @@ use crate::histories::history_of;
 use crate::lost::has_lost;
 use crate::order::order_fault;
 use crate::outcomes::outcomes_fault;
+use crate::picks::picks_fault;
 use crate::prefixes::{collections_fault, deliveries_fault};
 use crate::starts::starts_fault;
 use base_words::{ActorNo, CoreNo, Order, OutcomeNote};
-use judge_picks::picks_fault;
 use note_facts::{History, NameTable};
 use note_journal::Assembly;
 

@@ -102,7 +102,11 @@ impl<'a> Source for TextSource<'a> {
 }
 
 /// Reads what comes next, and goes on where a signal interrupts it. At the end of the input it answers 0.
-pub(crate) fn read_some<S: Source>(source: &mut S, room: &mut [u8]) -> Result<usize, DeviceFault>
+///
+/// # Errors
+///
+/// A read failed, or 1000 in a row were interrupted.
+pub fn read_some<S: Source>(source: &mut S, room: &mut [u8]) -> Result<usize, DeviceFault>
     ensures room { length room.new ≡ length room.old }
     ensures within { IfOk result (λ count. count ≤ length room.new) }
     ensures bytes { IfOk result (λ count.

@@ -27,11 +27,3 @@ pub mod HeadLines
 pub mod ReadBack
 pub mod FirstLines
 pub mod FaultyForms
-pub mod ByteFields
-pub mod ByteNotes
-pub mod ByteParts
-pub mod ByteLaws
-pub mod HouseLemmas
-pub mod HouseLaws
-pub mod HouseReads
-pub mod HousesRefused

@@ -15,11 +15,3 @@ pub mod JournalTexts
 pub mod ReadLaws
 pub mod FaultyForms
 pub mod BadPasses
-pub mod NoteBytes
-pub mod ByteNotes
-pub mod Parts
-pub mod PartLaws
-pub mod BadParts
-pub mod Houses
-pub mod HouseLaws
-pub mod BadHouses

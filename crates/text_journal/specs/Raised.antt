@@ -19,6 +19,10 @@ pub record Drafted : Type 0 where
 abbrev pub empty_draft : Drafted
 empty_draft = record { part = part.Form; cores = 1; cap = 1; burst = 1; earlier = []; notes = [] }
 
+-- right behind the second line, which tells these numbers
+abbrev pub begun_draft : ℕ → ℕ → ℕ → Drafted
+begun_draft cores cap burst = record { part = part.Notes; cores = cores; cap = cap; burst = burst; earlier = []; notes = [] }
+
 -- the journal of this actor is whole, and the next actor's begins
 abbrev pub next_actor : Drafted → Drafted
 next_actor draft = record { part = draft.part; cores = draft.cores; cap = draft.cap; burst = draft.burst; earlier = draft.earlier ++ draft.notes ∷ []; notes = [] }

@@ -5,15 +5,14 @@ ghost use Rattle.base_words.specs.Limits.{most_cores, most_notes};
 ghost use Rattle.text_words.specs.Words.{words};
 ghost use Rattle.text_journal.specs.Drafts as spec;
 ghost use Rattle.text_journal.specs.Handed.{Handed, HasHanded, IsBegun, IsLast, handed_on, nothing_handed};
-ghost use Rattle.text_journal.specs.Houses.{house_draft};
 ghost use Rattle.text_journal.specs.Passing.{with_handed};
+ghost use Rattle.text_journal.specs.Raised.{begun_draft};
 ghost use Rattle.note_journal.specs.Writers.{terms_seen};
 ghost use Rattle.text_bytes.specs.Faults.{IfCause};
 
 use crate::fault::JournalCause;
 use crate::field::number_in;
 use crate::note::note_of;
-use crate::parts::HouseNumbers;
 use crate::phrase::last;
 use crate::taker::NoteTaker;
 use base_sealed::History;
@@ -37,9 +36,12 @@ pub enum Part {
     After,
 }
 
-/// A text as far as its lines are judged. Its notes are handed to a taker. A taker that fails is given up.
+/// Journals as far as they are judged, line by line or note by note. Their notes are handed to a taker. A taker that fails is given up.
+///
+/// A contract sees a `Drafted`: the numbers of the house, the whole journals of the actors before, and the notes of the actor whose notes
+/// come now.
 #[derive(Drop)]
-pub(crate) struct Draft<T: NoteTaker> {
+pub struct Draft<T: NoteTaker> {
     part: Part,
     cores: u8,
     cap: u16,
@@ -99,11 +101,15 @@ impl<T: NoteTaker> Draft<T> {
     }
 
     /// Behind the numbers of a house, with no note.
-    pub(crate) fn begun(taker: T, house: HouseNumbers) -> Result<Draft<T>, Stop<JournalCause>>
+    ///
+    /// # Errors
+    ///
+    /// The taker has no memory.
+    pub fn begun(taker: T, cores: u8, cap: u16, burst: u8) -> Result<Draft<T>, Stop<JournalCause>>
         requires has { T.has taker nothing_handed }
-        requires some { 1 ≤ house.cores }
-        requires few { house.cores ≤ most_cores }
-        ensures ok { IfOk result (λ draft. draft ≡ house_draft house) }
+        requires some { 1 ≤ cores }
+        requires few { cores ≤ most_cores }
+        ensures ok { IfOk result (λ draft. draft ≡ begun_draft cores cap burst) }
         ensures faulty { IfErr result (IfCause (λ cause. ⊥)) }
     {
         let mut draft = Draft {
@@ -117,12 +123,12 @@ impl<T: NoteTaker> Draft<T> {
             earlier: History::new(),
             notes: History::new(),
         };
-        draft.begin(house.cores, house.cap, house.burst)?;
+        draft.begin(cores, cap, burst)?;
         Ok(draft)
     }
 
     /// Whose notes come now, and what holds of the whole house.
-    pub(crate) fn writer(&self) -> Writer
+    pub fn writer(&self) -> Writer
         ensures { terms_seen result ≡ record { actor = length self.now.earlier; cores = self.now.cores; cap = self.now.cap; burst = self.now.burst } }
     {
         Writer {
@@ -134,7 +140,7 @@ impl<T: NoteTaker> Draft<T> {
     }
 
     /// How many notes of that actor came.
-    pub(crate) fn count(&self) -> u32
+    pub fn count(&self) -> u32
         ensures value { result ≡ length self.now.notes }
         ensures most { result ≤ most_notes }
     {
@@ -252,7 +258,11 @@ impl<T: NoteTaker> Draft<T> {
     }
 
     /// Hands the next note of the actor to the taker.
-    pub(crate) fn hand(&mut self, note: &Note<u64>) -> Result<(), Stop<JournalCause>>
+    ///
+    /// # Errors
+    ///
+    /// The taker has no memory.
+    pub fn hand(&mut self, note: &Note<u64>) -> Result<(), Stop<JournalCause>>
         requires part { IsBegun self.old.part }
         requires few { length self.old.notes < most_notes }
         ensures ok { OnOk result (self.new ≡ with_handed note.now self.old) }
@@ -271,7 +281,11 @@ impl<T: NoteTaker> Draft<T> {
     }
 
     /// Goes on to this actor. The journals of those before it are whole.
-    pub(crate) fn raise_to(&mut self, actor: u8) -> Result<(), Stop<JournalCause>>
+    ///
+    /// # Errors
+    ///
+    /// The taker has no memory.
+    pub fn raise_to(&mut self, actor: u8) -> Result<(), Stop<JournalCause>>
         requires part { IsBegun self.old.part }
         requires within { actor ≤ self.old.cores }
         ensures ok { OnOk result (self.new ≡ spec.raised_to actor self.old) }
@@ -305,7 +319,11 @@ impl<T: NoteTaker> Draft<T> {
     }
 
     /// What the notes of all actors became, where the lines end here.
-    pub(crate) fn into_whole(mut self) -> Result<T::Whole, Stop<JournalCause>>
+    ///
+    /// # Errors
+    ///
+    /// The taker has no memory.
+    pub fn into_whole(mut self) -> Result<T::Whole, Stop<JournalCause>>
         requires { IsBegun self.part }
         ensures ok { IfOk result (λ whole. T.makes whole (handed_on (spec.raised_to self.cores self))) }
         ensures faulty { IfErr result (IfCause (λ cause. ⊥)) }

@@ -10,9 +10,9 @@ use std::alloc::{AllocError, Global};
 use std::marker::Model;
 use std::mem::replace;
 
-/// The journals of the actors before, and the notes so far of the actor whose notes come now.
+/// Who keeps all notes: the journals of the actors before, and the notes so far of the actor whose notes come now.
 #[derive(Drop)]
-pub(crate) struct Keeper {
+pub struct Keeper {
     cores: u8,
     cap: u16,
     burst: u8,
@@ -38,7 +38,7 @@ impl Model for Keeper {
 
 impl Keeper {
     /// Before the second line.
-    pub(crate) fn new(alloc: Global) -> Keeper
+    pub fn new(alloc: Global) -> Keeper
         ensures { result ≡ nothing_handed }
     {
         Keeper {

@@ -5,18 +5,13 @@
 //! Reads the text of journals, and judges it line by line.
 #![tactic(auto)]
 
-mod byte_fields;
-pub mod byte_notes;
-mod draft;
+pub mod draft;
 pub mod fault;
 pub mod field;
-mod keeper;
+pub mod keeper;
 pub mod kind;
 pub mod laws;
 pub mod note;
-pub mod note_bytes;
-pub mod part;
-pub mod parts;
 pub mod phrase;
 pub mod read_laws;
 mod reader;

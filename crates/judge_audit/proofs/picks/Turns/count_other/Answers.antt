@@ -1,0 +1,11 @@
+use Rattle.std.proofs.Common.{inl, refl, sym, ◌∙◌}
+use Rattle.std.proofs.lemmas.Bool.{true≢false}
+use Rattle.judge_audit.proofs.WaitingSteps.{next_waiting}
+use Rattle.judge_audit.proofs.picks.Turns.count_other.Goals as goal
+
+pub returns-clause-waiting : goal.returns-clause-waiting
+returns-clause-waiting c =
+    λ before knows waiting.
+    next_waiting c.args.burst c.args.self.now.accounts c.add.new.self c.args.note.now c.args.spot.now before knows (c.add.ensures.others before knows) c.args.self.now.least
+    c.args.self.now.least c.place_if.new.least c.place_if-2.new.least waiting c.place_if.ensures.placed c.place_if-2.ensures.placed (λ queue. inl refl)
+    (λ ends. absurd (true≢false (sym ends ∙ c.requires.going)))

@@ -1,6 +1,0 @@
-use Rattle.base_words.specs.Journal.{at_place}
-use Rattle.judge_picks.specs.Picks.{PicksSoFar}
-use Rattle.judge_picks.proofs.picks.picks_fault.Given as goal
-
-abbrev pub invariant-loop-place : goal.invariant-loop-place
-invariant-loop-place l = PicksSoFar l.burst l.turns (at_place l.place l.journal.notes)

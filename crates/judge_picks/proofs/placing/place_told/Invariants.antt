@@ -1,5 +1,0 @@
-use Rattle.judge_picks.proofs.Placings.{PlacedSoFar}
-use Rattle.judge_picks.proofs.placing.place_told.Given as goal
-
-abbrev pub invariant-loop-index : goal.invariant-loop-index
-invariant-loop-index l = PlacedSoFar l.accounts l.recent l.fn.least l.least l.index

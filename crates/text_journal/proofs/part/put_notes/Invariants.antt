@@ -1,6 +1,0 @@
-use Rattle.std.proofs.Common.{◌≡◌, ◌++◌, take}
-use Rattle.text_journal.specs.Parts.{body_bytes}
-use Rattle.text_journal.proofs.part.put_notes.Given as goal
-
-abbrev pub invariant-loop-note : goal.invariant-loop-note
-invariant-loop-note l = l.out.items ≡ l.fn.out.items ++ body_bytes (take l.note-index l.notes)

@@ -1,6 +1,0 @@
-use Rattle.text_journal.proofs.HouseLaws.{read_back, faulty_are_none}
-use Rattle.text_journal.proofs.HouseReads.{only_read}
-use Rattle.text_journal.proofs.read_laws.houses_are_read_back.Goals as goal
-
-pub returns : goal.returns
-returns c = record { again = read_back; only = only_read; faulty = faulty_are_none }

@@ -1,0 +1,10 @@
+pub mod NoteBytes
+pub mod ByteNotes
+pub mod Parts
+pub mod PartLaws
+pub mod BadParts
+pub mod Houses
+pub mod HouseLaws
+pub mod BadHouses
+pub mod Faults
+pub mod Wholes
