@@ -8,10 +8,6 @@ use Rattle.text_bytes.specs.Readings.{IsLongest, at}
 use Rattle.text_bytes.specs.Taking.{IsPrompt, IsToldByRead, TakesAll}
 use Rattle.text_bytes.specs.Texts.{Judge, Reading}
 use Rattle.text_bytes.specs.Tries.{IfFailed, IfInterrupted, IfMade, IfNotMade, IsNoFewer}
-use Rattle.text_journal.specs.declared.parts.PartsCause.TheVariants.{House}
-use Rattle.text_journal.specs.declared.parts.PartsError.TheVariants.{Faulty}
-use Rattle.text_journal.specs.ByteNotes.{Gives}
-use Rattle.text_journal.specs.Houses.{IfFaulty, MakesParts}
 use Rattle.text_journal.specs.Pages.{AppendsFront}
 use Rattle.note_sinks.specs.Lines.{HasWritten, HoldsText, IsBlank}
 use Rattle.note_sinks.specs.Outlets.{Writes}
@@ -49,22 +45,12 @@ interrupted_is_not_made fact = fact
 pub failed : IfFailed {A = ℕ} Failed ⊥ → ⊥
 failed fact = fact
 
-pub faulty_parts : IfFaulty (λ place cause. ⊥) (Faulty 0 House) → ⊥
-faulty_parts fact = fact
-
 -- a try is taken back, and a line may be longer than was told
 pub try_taken_back : IsNoFewer (Some 1) (Some 0) → ⊥
 try_taken_back fewer = absurd (omega (arith, fewer))
 
 pub longer_than_told : IsLongest 4 3 → ⊥
 longer_than_told longest = absurd (omega (arith, longest.same))
-
--- what is read isn't returned, and parts become what no notes make
-pub read_and_lost : Gives {X = ℕ} {Y = ℕ} (λ found. found) None (Some 7) → ⊥
-read_and_lost gives = cc gives
-
-pub made_of_nothing : (bytes : List ℕ) → MakesParts {W = ℕ} (λ whole handed. ⊥) 7 bytes → ⊥
-made_of_nothing bytes makes = makes.4
 
 -- a byte is written that isn't of the text, and one is lost on its way
 too_many : (bytes rest : List ℕ) → 7 ∷ [] ≡ bytes → bytes ++ rest ≡ [] → ⊥
