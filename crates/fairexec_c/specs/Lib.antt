@@ -8,3 +8,5 @@ pub mod Queueing
 pub mod Running
 pub mod Seats
 pub mod Waking
+pub mod BadSeats
+pub mod BadBoards

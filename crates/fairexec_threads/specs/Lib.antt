@@ -4,3 +4,5 @@ pub mod Polled
 pub mod Accepted
 pub mod Runs
 pub mod BadRuns
+pub mod BadCallers
+pub mod BadReports

@@ -9,3 +9,5 @@ pub mod Views
 pub mod WaitTexts
 pub mod BadWalks
 pub mod BadFaults
+pub mod BadViews
+pub mod BadKnown

@@ -6,6 +6,10 @@ ghost use Rattle.fairview_report.specs.Texts as spec;
 use std::alloc::{AllocError, Global};
 
 /// Puts a number at the right end of so many places.
+///
+/// # Errors
+///
+/// `AllocError` for want of memory. A first part of the text may then stand on the page.
 pub fn put_right(
     alloc: Global,
     width: usize,
@@ -36,6 +40,10 @@ fn marks(width: u8, piece: u128, whole: u128) -> u8
 }
 
 /// Puts the bar of a part of a whole, which has so many marks.
+///
+/// # Errors
+///
+/// `AllocError` for want of memory. A first part of the text may then stand on the page.
 pub fn put_bar(
     alloc: Global,
     plain: bool,

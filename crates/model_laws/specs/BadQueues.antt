@@ -56,7 +56,7 @@ changed_without_a_call makes = by_calls makes.0 makes.1
     by_calls (call ∷ calls) made = made.1
 
 -- an empty line has no first job
-no_first : {A : Type 0} {first : A} {others : List A} → [] ≡ first ∷ others → ⊥
+pub no_first : {A : Type 0} {first : A} {others : List A} → [] ≡ first ∷ others → ⊥
 no_first same = cc
 
 -- an empty line has a head, may be polled, is turned, rests, and has a turn

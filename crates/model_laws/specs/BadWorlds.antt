@@ -1,5 +1,5 @@
 -- Replies and runs that no world has, each refused by the definition that judges it.
-use Rattle.std.specs.Prelude.{◌≡◌, ℕ, true, false, List, [], ◌∷◌, Err}
+use Rattle.std.specs.Prelude.{◌≡◌, ℕ, true, false, List, [], ◌∷◌, Ok, Err}
 use Rattle.std.proofs.Common.{inl, inr, ap, arith}
 use Rattle.base_words.specs.declared.names.JobId.{JobId}
 use Rattle.base_words.specs.declared.note.Note.{Note}
@@ -13,6 +13,9 @@ use Rattle.model_world.specs.declared.event.Event.TheVariants.{Send, Turn}
 use Rattle.model_world.specs.declared.event.Reply.TheVariants as reply
 use Rattle.model_world.specs.Calls.{CallsAt}
 use Rattle.model_world.specs.Closings.{Shuts}
+use Rattle.model_world.specs.Cores.{AreOpened}
+use Rattle.model_world.specs.Links.{AreFresh}
+use Rattle.model_world.specs.Opening.{CreatesAtOpening, HasReadyEvent}
 use Rattle.model_world.specs.Runs.{Happens, IsRun}
 use Rattle.model_world.specs.Sends.{Sends}
 use Rattle.model_world.specs.State.{WorldView, noted}
@@ -61,6 +64,21 @@ module _ (meaning : Meaning ℕ ℕ) (new : WorldView ℕ ℕ) where
   pub submits_nowhere : CallsAt meaning 0 fresh (Submit 0 order (Err (NoCore order))) new → ⊥
   submits_nowhere (inl told) = absurd (omega (arith, told.0))
   submits_nowhere (inr told) = told.1
+
+  -- a second queue is the third
+  pub skips_a_number : CreatesAtOpening 0 1000 fresh (Ok 2) new → ⊥
+  skips_a_number told = absurd (omega (arith, told.0))
+
+-- a house of one core has no core, and no link
+pub no_core_is_opened : AreOpened {J = ℕ} {T = ℕ} 1 1 9 1 [] → ⊥
+no_core_is_opened opened = absurd (omega (arith, opened.cores_are))
+
+pub no_link_is_fresh : AreFresh {J = ℕ} {T = ℕ} 1 1 [] → ⊥
+no_link_is_fresh links = absurd (omega (arith, links.rows_are))
+
+-- an order is handed in that isn't ready
+pub unready_is_handed_in : HasReadyEvent (λ order. ⊥) (Send 1 0 order) → ⊥
+unready_is_handed_in ready = ready
 
 -- a note is written without an event
 pub notes_by_itself : (meaning : Meaning ℕ ℕ) → IsRun meaning [] fresh working → ⊥

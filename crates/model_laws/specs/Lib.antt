@@ -16,3 +16,5 @@ pub mod BadEntries
 pub mod BadQueues
 pub mod BadLanes
 pub mod BadTickets
+pub mod BadCores
+pub mod BadEnds

@@ -4,3 +4,5 @@ pub mod Laws
 pub mod Naps
 pub mod Ledgers
 pub mod Sums
+pub mod BadLedgers
+pub mod BadTexts
