@@ -2,12 +2,15 @@
 use Rattle.std.specs.Prelude.{◌≡◌, ◌∷◌, [], ℕ, List, Some, None}
 use Rattle.std.proofs.Common.{inl, inr}
 use Rattle.fairview_report.specs.declared.view.View.TheVariants.{Polls}
-use Rattle.text_parts.specs.Faults.{bytes_status}
-use Rattle.text_parts.specs.Houses.{house_at}
+use Rattle.text_parts.specs.ByteNotes.{Gives}
+use Rattle.text_parts.specs.Faults.{IfBytes, IfUnwritten, bytes_status}
+use Rattle.text_parts.specs.Houses.{IfFaulty, MakesParts, house_at}
 use Rattle.text_parts.specs.Wholes.{MakesText}
 use Rattle.text_parts.specs.declared.fault.BytesFault.{BytesFault}
 use Rattle.text_parts.specs.declared.fault.BytesFault.TheVariants as bytes
 use Rattle.text_parts.specs.declared.parts.HouseNumbers.{HouseNumbers}
+use Rattle.text_parts.specs.declared.parts.PartsCause.TheVariants.{House}
+use Rattle.text_parts.specs.declared.parts.PartsError.TheVariants.{Faulty}
 use Rattle.text_words.specs.declared.status.Status.{Status}
 use Rattle.text_words.specs.declared.status.Status.TheVariants as status
 use Rattle.fairview.specs.Answers.{file_reads}
@@ -42,3 +45,20 @@ no_bytes_are_shown old new (inr refused) = not_done_by refused.0 refused.2
 pub faulty_bytes_are_written : (result : Status) → BytesIn [] [] (1 ∷ []) result → ⊥
 faulty_bytes_are_written result (inl shown) = no_bytes_have_a_text shown.0 shown.1.told
 faulty_bytes_are_written result (inr refused) = cc refused.3
+
+-- what no case is met by: a fault at a place and a failed write have their facts
+pub faulty_bytes : IfBytes (λ place cause. ⊥) (bytes.Faulty 0 House) → ⊥
+faulty_bytes fact = fact
+
+pub faulty_parts : IfFaulty (λ place cause. ⊥) (Faulty 0 House) → ⊥
+faulty_parts fact = fact
+
+pub failed_write : IfUnwritten ⊥ bytes.Write → ⊥
+failed_write fact = fact
+
+-- what is read isn't returned, and parts become what no notes make
+pub read_and_lost : Gives {X = ℕ} {Y = ℕ} (λ found. found) None (Some 7) → ⊥
+read_and_lost gives = cc gives
+
+pub made_of_nothing : (bytes : List ℕ) → MakesParts {W = ℕ} (λ whole handed. ⊥) 7 bytes → ⊥
+made_of_nothing bytes makes = makes.4

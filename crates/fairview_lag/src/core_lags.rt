@@ -125,7 +125,7 @@ impl CoreLags {
     ///
     /// # Errors
     ///
-    /// `AllocError` for want of memory.
+    /// `AllocError` for want of memory. A first part of them may then stand there.
     pub fn push_pairs(&self, core: CoreNo, pairs: &mut Vec<PairLag>) -> Result<(), AllocError>
         ensures { OnOk result ((burst : ℕ) (journal : Notes ℕ) → spec.KnowsLags burst self.now journal → pairs.new.items ≡ pairs.old.items ++ core_pairs burst core journal) }
     {

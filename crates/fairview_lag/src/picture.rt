@@ -74,7 +74,7 @@ fn words() -> &'static str
 ///
 /// # Errors
 ///
-/// `AllocError` for want of memory.
+/// `AllocError` for want of memory. A first part of the text may then stand on the page.
 pub fn put_lag(alloc: Global, assembly: &Assembly, page: &mut String) -> Result<(), AllocError>
     ensures { OnOk result (string_bytes page.new ≡ string_bytes page.old ++ spec.lag_picture assembly.now) }
 {

@@ -12,7 +12,7 @@ use std::alloc::AllocError;
 ///
 /// # Errors
 ///
-/// `AllocError` for want of memory.
+/// `AllocError` for want of memory. A first part of the text may then stand on the page.
 pub fn put_pair_lines(pairs: &[PairLag], page: &mut String) -> Result<(), AllocError>
     ensures { OnOk result (string_bytes page.new ≡ string_bytes page.old ++ flat_map spec.pair_line pairs.now) }
 {

@@ -51,7 +51,7 @@ impl fmt::Display for Axis {
 ///
 /// # Errors
 ///
-/// `AllocError` for want of memory.
+/// `AllocError` for want of memory. A first part of the text may then stand on the page.
 pub fn put_gantt(
     alloc: Global,
     assembly: &Assembly,

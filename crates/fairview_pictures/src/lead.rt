@@ -70,7 +70,7 @@ fn put_line(
 ///
 /// # Errors
 ///
-/// `AllocError` for want of memory.
+/// `AllocError` for want of memory. A first part of the text may then stand on the page.
 pub fn put_greatest_lead(
     alloc: Global,
     core: CoreNo,

@@ -14,7 +14,7 @@ use std::alloc::{AllocError, Global};
 ///
 /// # Errors
 ///
-/// `AllocError` for want of memory.
+/// `AllocError` for want of memory. A first part of the text may then stand on the page.
 pub fn put_trace(alloc: Global, assembly: &Assembly, page: &mut String) -> Result<(), AllocError>
     ensures { OnOk result (string_bytes page.new ≡ string_bytes page.old ++ spec.trace_text assembly.now) }
 {

@@ -34,7 +34,7 @@ pub trait LineDraft: Drop {
 
     ghost lines_left: { ℕ → Self → ℕ };
 
-    /// Takes a line that ended and isn't too long, by its number from 1.
+    /// Takes a line that ended and isn't too long, by its number from 1. After an error nothing is said of the draft, and it gets no more lines.
     fn take(&mut self, number: u32, line: &[u8]) -> Result<(), Stop<Self::Cause>>
         requires fits { fits number self.old }
         requires short { length line.now ≤ judge.longest }

@@ -19,6 +19,7 @@ pub trait NoteTaker: Drop {
     ghost makes: { Self.Whole → Handed → Type 0 };
 
     /// Takes the numbers of the second line: the cores, the places of a link, and the polls of a turn. The notes of core 0 come next.
+    /// After an error of this or of the calls below nothing is said of the taker, and it gets nothing more.
     fn begin(&mut self, cores: u8, cap: u16, burst: u8) -> Result<(), AllocError>
         ensures { OnOk result (has self.old nothing_handed → has self.new (begun cores cap burst)) };
 

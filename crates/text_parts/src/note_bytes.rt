@@ -10,7 +10,7 @@ use std::alloc::AllocError;
 ///
 /// # Errors
 ///
-/// There is no memory for it.
+/// There is no memory for it. A first part of it may then stand there.
 pub fn put_note(note: Note<u64>, out: &mut Vec<u8>) -> Result<(), AllocError>
     ensures { OnOk result (out.new.items ≡ out.old.items ++ spec.note_bytes note) }
 {

@@ -99,7 +99,7 @@ pub fn pass_parts<T: NoteTaker>(
 ///
 /// # Errors
 ///
-/// There is no memory for them.
+/// There is no memory for them. A first part of them may then stand there.
 pub fn put_house(house: HouseNumbers, out: &mut Vec<u8>) -> Result<(), AllocError>
     ensures { OnOk result (out.new.items ≡ out.old.items ++ spec.house_bytes house) }
 {
