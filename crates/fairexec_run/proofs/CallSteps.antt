@@ -32,7 +32,7 @@ with_orders : (most unpaid orders actor : ℕ) (notes : List (Note ℕ)) (old ne
 with_orders most unpaid orders actor notes old new sent light same =
     let grows = adds actor notes old most unpaid orders light in
     subst (Grows most unpaid orders actor old) (sym same)
-    (record { notes = grows.notes; noted = grows.noted; longer = grows.longer; cores = grows.cores; cap = grows.cap; burst = grows.burst; room = grows.room })
+    (record { notes = grows.notes; noted = grows.noted; longer = grows.longer; told = grows.told; cores = grows.cores; cap = grows.cap; burst = grows.burst; room = grows.room })
 
 -- a send adds two: its note, and its submission, which pays for it
 pub send_grows : (sender core : ℕ) (what : Order Script) (old new : ScriptWorld) (answer : Reply Script) → Sends sender core what old new answer → Grows 2 0 0 sender old new

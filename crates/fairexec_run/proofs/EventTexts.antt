@@ -1,5 +1,5 @@
 -- The text of one event, and of events one after another.
-use Rattle.std.proofs.Common.{◌≡◌, ℕ, ◌+◌, ◌≤◌, ◌<◌, List, [], ◌∷◌, ◌++◌, length, Option, refl, sym, ap, ◌∙◌, subst, arith, append_assoc, append-nil, length-append, take, drop, reverse, suc, get_or, ◌-◌}
+use Rattle.std.proofs.Common.{◌≡◌, ℕ, ◌+◌, ◌≤◌, ◌<◌, List, [], ◌∷◌, ◌++◌, length, Option, refl, sym, ap, ◌∙◌, subst, arith, append_assoc, append-nil, length-append, take, drop, reverse, suc, get_or}
 use Rattle.std.specs.Prelude.{map}
 use Rattle.std.proofs.Math.Seq.{drop-append_seam, drop-cons}
 use Rattle.std.proofs.lemmas.List.{reverse-append, length-reverse, map-id, take-append-drop}
@@ -16,18 +16,17 @@ use Rattle.model_world.specs.State.{journal_at, assembly_of}
 use Rattle.model_world.specs.Sends.{actor_of}
 use Rattle.text_words.specs.declared.reply.EventEnds.{EventEnds}
 use Rattle.text_words.specs.declared.reply.Quiet.{Quiet}
-use Rattle.fairexec_script.specs.Limits.{IsEventOf, IsSize, IsBurst}
+use Rattle.fairexec_script.specs.Limits.{IsEventOf, IsBurst}
 use Rattle.text_journal.specs.Pages.{AppendsFront}
 use Rattle.text_journal.proofs.PageLemmas.{puts_more, puts_out, front_now, front_of_page}
 use Rattle.fairexec_run.specs.Begun.{WritesFirst}
 use Rattle.fairexec_run.specs.Outputs.{WritesAll}
 use Rattle.fairexec_run.specs.Replies.{event_of, ends_of, quiet_of}
 use Rattle.fairexec_run.specs.Rooms.{IsRoomy}
-use Rattle.fairexec_run.specs.Transcripts.{ScriptWorld, Occurs, IsHeard, Prints, PrintsAll, script_room}
+use Rattle.fairexec_run.specs.Transcripts.{ScriptWorld, Occurs, IsHeard, Prints, PrintsAll}
 use Rattle.fairexec_run.specs.EventTexts.{event_text, note_lines, quiet_text}
 use Rattle.fairexec_run.proofs.EventLimits.{are_there, is_there}
 use Rattle.fairexec_run.proofs.WorldSteps.{event_grows, event_short, is_heard, is_free}
-use Rattle.fairexec_script.specs.TextLimits.{most_lines}
 
 pub same_actor : (event : ScriptEvent) → (ends_of event).actor ≡ actor_of (event_of event)
 same_actor (Send sender core what) = refl
@@ -57,7 +56,7 @@ new_notes notes before =
     ∙ ap (λ count. drop count (reverse before ++ reverse notes)) (sym (length-reverse before))
     ∙ drop-append_seam (reverse before) (reverse notes)
 
-module _ (event : ScriptEvent) (old new : ScriptWorld) (answer : Reply Script) (occurs : Occurs (event_of event) old new answer) (roomy : IsRoomy old.cores old.cap old.burst (most_lines - 1) old) (joined : AreJoined (assembly_of old)) (here : IsEventOf old.cores event) where
+module _ (event : ScriptEvent) (old new : ScriptWorld) (answer : Reply Script) (occurs : Occurs (event_of event) old new answer) (roomy : IsRoomy old.cores old.cap old.burst 1 old) (joined : AreJoined (assembly_of old)) (here : IsEventOf old.cores event) where
   heard : IsHeard answer
   heard = is_heard (event_of event) old new answer occurs (are_there old.cores event here) (is_free (actor_of (event_of event)) old (is_there old.cores event here) joined roomy)
 
@@ -127,7 +126,7 @@ module _ (event : ScriptEvent) (old new : ScriptWorld) (answer : Reply Script) (
       )
 
 -- the actor of an event is there after it too
-pub still_there : (event : ScriptEvent) (old new : ScriptWorld) (answer : Reply Script) → Occurs (event_of event) old new answer → IsRoomy old.cores old.cap old.burst (most_lines - 1) old → IsEventOf old.cores event →
+pub still_there : (event : ScriptEvent) (old new : ScriptWorld) (answer : Reply Script) → Occurs (event_of event) old new answer → IsRoomy old.cores old.cap old.burst 1 old → IsEventOf old.cores event →
     (ends : EventEnds) → ends ≡ ends_of event → ends.actor ≤ new.cores
 still_there event old new answer occurs roomy here ends ends_are =
     let grows = event_grows (event_of event) old new answer roomy.bursts occurs in
@@ -136,41 +135,51 @@ still_there event old new answer occurs roomy here ends ends_are =
     let there = is_there old.cores event here in
     omega arith
 
--- behind one event more
-pub roomy_more : (cores cap burst events more : ℕ) (event : ScriptEvent) (old new : ScriptWorld) (text : List ℕ) → IsRoomy cores cap burst events old → Prints event old new text → more ≡ events + 1 →
-    IsRoomy cores cap burst more new
-roomy_more cores cap burst events more event old new text roomy prints next =
-    let grows = event_grows (event_of event) old new prints.answer (subst IsBurst (sym roomy.burst_is) roomy.bursts) prints.occurs in
+-- behind one event more there is room for one less
+pub roomy_more : (cores cap burst more left : ℕ) (event : ScriptEvent) (old new : ScriptWorld) (text : List ℕ) → IsRoomy cores cap burst more old → Prints event old new text → more ≡ left + 1 →
+    IsRoomy cores cap burst left new
+roomy_more cores cap burst more left event old new text is prints next =
+    let roomy = subst (λ count. IsRoomy cores cap burst count old) next is in
+    let bursts = subst IsBurst (sym roomy.burst_is) roomy.bursts in
+    let grows = event_grows (event_of event) old new prints.answer bursts prints.occurs in
+    let room = grows.room in
     record {
       cores_are = grows.cores ∙ roomy.cores_are;
       cap_is = grows.cap ∙ roomy.cap_is;
       burst_is = grows.burst ∙ roomy.burst_is;
-      room_is = grows.room ∙ roomy.room_is;
       size = roomy.size;
       bursts = roomy.bursts;
       short =
           λ form actor.
           let before = roomy.short form actor in
-          let after = ((event_short (event_of event) old new prints.answer (ap has_bursts roomy.burst_is ∙ form) prints.occurs).longer actor).counted in
+          let after = ((event_short (event_of event) old new prints.answer (ap has_bursts roomy.burst_is ∙ form) bursts prints.occurs).longer actor).counted in
           omega arith;
-      paid = λ actor. let before = roomy.paid actor in let after = (grows.longer actor).paid in omega arith;
-      delivered = λ actor. let before = roomy.delivered actor in let after = (grows.longer actor).delivered in omega arith;
+      paid =
+          λ form actor.
+          let before = roomy.paid form actor in
+          let after = (grows.longer actor).paid in
+          let told = grows.told in
+          let same = roomy.burst_is in
+          omega arith;
     }
 
-pub roomy_here : (cores cap burst events : ℕ) (world : ScriptWorld) → IsRoomy cores cap burst events world → events ≤ most_lines - 1 → IsRoomy world.cores world.cap world.burst (most_lines - 1) world
-roomy_here cores cap burst events world roomy within = record {
-  cores_are = refl;
-  cap_is = refl;
-  burst_is = refl;
-  room_is =
-      roomy.room_is ∙ ap (λ size. script_room size cap burst) (sym roomy.cores_are) ∙ ap (λ size. script_room world.cores size burst) (sym roomy.cap_is)
-      ∙ ap (λ size. script_room world.cores world.cap size) (sym roomy.burst_is);
-  size = subst (λ count. IsSize count world.cap) (sym roomy.cores_are) (subst (λ count. IsSize cores count) (sym roomy.cap_is) roomy.size);
-  bursts = subst IsBurst (sym roomy.burst_is) roomy.bursts;
-  short = λ form actor. let before = roomy.short (ap has_bursts (sym roomy.burst_is) ∙ form) actor in omega arith;
-  paid = λ actor. let before = roomy.paid actor in omega arith;
-  delivered = λ actor. let before = roomy.delivered actor in omega arith;
-}
+-- if there is room for some events, there is for one
+pub roomy_here : (cores cap burst more left : ℕ) (world : ScriptWorld) → IsRoomy cores cap burst more world → more ≡ left + 1 → IsRoomy world.cores world.cap world.burst 1 world
+roomy_here cores cap burst more left world is next =
+    let counted = subst (λ count. IsRoomy cores cap burst count world) next is in
+    let roomy =
+    subst (λ size. IsRoomy size world.cap world.burst (left + 1) world) (sym counted.cores_are)
+    (subst (λ size. IsRoomy cores size world.burst (left + 1) world) (sym counted.cap_is)
+    (subst (λ size. IsRoomy cores cap size (left + 1) world) (sym counted.burst_is) counted)) in
+    record {
+      cores_are = refl;
+      cap_is = refl;
+      burst_is = refl;
+      size = roomy.size;
+      bursts = roomy.bursts;
+      short = λ form actor. let before = roomy.short form actor in omega arith;
+      paid = λ form actor. let before = roomy.paid form actor in omega arith;
+    }
 
 -- what is left of the events
 pub left_over : (all events : List ScriptEvent) → map (λ event. event) events ≡ take (length events) all → all ≡ events ++ drop (length events) all

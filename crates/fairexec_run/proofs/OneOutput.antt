@@ -1,5 +1,5 @@
 -- Two outputs of a script are one, unless one of its runs was refused memory.
-use Rattle.std.proofs.Common.{◌≡◌, ℕ, List, [], ◌∷◌, ◌++◌, refl, sym, ◌∙◌, ap, subst, ◌⊎◌, inl, inr, ⊎_elim, Bool, true, false}
+use Rattle.std.proofs.Common.{◌≡◌, ℕ, List, [], ◌∷◌, ◌++◌, length, refl, sym, ◌∙◌, ap, subst, ◌⊎◌, inl, inr, ⊎_elim, Bool, true, false}
 use Rattle.std.specs.Prelude.{map, reverse, Some, Result, Ok}
 use Rattle.std.proofs.lemmas.List.{append_cancel_right}
 use Rattle.std.proofs.lemmas.Option.{same_Some}
@@ -87,9 +87,9 @@ queues_are [] world = refl
 queues_are (queue ∷ queues) world = queues_are queues (with_queue queue world)
 
 -- a script begins with a world in which nothing has happened
-begins : (script : Drafted) (cores cap : ℕ) (empty : ScriptWorld) → IsFresh cores cap script.burst (script_room cores cap script.burst) empty → IsUnbegun (with_queues script.queues empty)
+begins : (script : Drafted) (cores cap : ℕ) (empty : ScriptWorld) → IsFresh cores cap script.burst (script_room cores cap script.burst (length script.events)) empty → IsUnbegun (with_queues script.queues empty)
 begins script cores cap empty fresh =
-    subst (λ world. IsUnbegun world) (sym (queues_are script.queues empty)) (unbegun_creations script.queues empty (unbegun_fresh cores cap script.burst (script_room cores cap script.burst) empty fresh))
+    subst (λ world. IsUnbegun world) (sym (queues_are script.queues empty)) (unbegun_creations script.queues empty (unbegun_fresh cores cap script.burst (script_room cores cap script.burst (length script.events)) empty fresh))
 
 module _ (script : Drafted) (output : List ℕ) (is : IsOutput script output) where
   -- the run behind the output
@@ -109,8 +109,8 @@ module _ (script : Drafted) (output : List ℕ) (is : IsOutput script output) wh
 module _ (script : Drafted) (cores cap other_cores other_cap : ℕ)
     (size : script.size ≡ Some (cores, cap)) (other_size : script.size ≡ Some (other_cores, other_cap))
     (empty other_empty : ScriptWorld)
-    (fresh : IsFresh cores cap script.burst (script_room cores cap script.burst) empty)
-    (other_fresh : IsFresh other_cores other_cap script.burst (script_room other_cores other_cap script.burst) other_empty) where
+    (fresh : IsFresh cores cap script.burst (script_room cores cap script.burst (length script.events)) empty)
+    (other_fresh : IsFresh other_cores other_cap script.burst (script_room other_cores other_cap script.burst (length script.events)) other_empty) where
   abbrev first_size : ℕ × ℕ
   first_size = (cores, cap)
 
@@ -126,13 +126,13 @@ module _ (script : Drafted) (cores cap other_cores other_cap : ℕ)
   same_cap : cap ≡ other_cap
   same_cap = ap (λ (size : ℕ × ℕ). size.1) same_size
 
-  moved : IsFresh cores cap script.burst (script_room cores cap script.burst) other_empty
+  moved : IsFresh cores cap script.burst (script_room cores cap script.burst (length script.events)) other_empty
   moved =
-      subst (λ count. IsFresh count cap script.burst (script_room count cap script.burst) other_empty) (sym same_cores)
-      (subst (λ count. IsFresh other_cores count script.burst (script_room other_cores count script.burst) other_empty) (sym same_cap) other_fresh)
+      subst (λ count. IsFresh count cap script.burst (script_room count cap script.burst (length script.events)) other_empty) (sym same_cores)
+      (subst (λ count. IsFresh other_cores count script.burst (script_room other_cores count script.burst (length script.events)) other_empty) (sym same_cap) other_fresh)
 
   same_start : with_queues script.queues empty ≡ with_queues script.queues other_empty
-  same_start = ap (with_queues script.queues) (fresh_once cores cap script.burst (script_room cores cap script.burst) empty other_empty fresh moved)
+  same_start = ap (with_queues script.queues) (fresh_once cores cap script.burst (script_room cores cap script.burst (length script.events)) empty other_empty fresh moved)
 
 -- the events are printed in one way
 events_once : (script : Drafted) (output other : List ℕ) (first : IsOutput script output) (second : IsOutput script other) →

@@ -6,6 +6,7 @@ use Rattle.fairexec_script.specs.Drafts.{Drafted}
 use Rattle.fairexec_script.specs.Scripts.{script_of}
 use Rattle.fairexec_run.specs.BadOutputs.{OutputsAreRefused}
 use Rattle.fairexec_run.specs.Begun.{IsCutShort}
+use Rattle.fairexec_run.specs.Counts.{sent_count, collected_count}
 use Rattle.fairexec_run.specs.Transcripts.{ScriptWorld, PrintsAll}
 
 -- an empty text tells no script
@@ -32,6 +33,18 @@ outputs_refused = record {
   rear_unasked = λ assembly is. cc;
   of_none = λ back heard. heard;
   no_room = λ back heard. heard;
-  short_journals = λ world hundred roomy. let same : 100 ≡ 32775 = sym hundred ∙ roomy.room_is in absurd (omega arith);
+  short_journals =
+      λ world none room roomy.
+      let short = roomy.short refl 0 in
+      let count = ap length none in
+      let collected = ap collected_count none in
+      absurd (omega arith);
+  short_in_bursts =
+      λ world none room roomy.
+      let paid = roomy.paid refl 0 in
+      let count = ap length none in
+      let sent = ap sent_count none in
+      let collected = ap collected_count none in
+      absurd (omega arith);
   many_queues = λ world may. let few : length (journal_at 0 world) + 256 ≤ 255 = may.notes 0 in absurd (omega arith);
 }

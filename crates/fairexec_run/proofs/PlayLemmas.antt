@@ -1,5 +1,5 @@
 -- What is printed of a whole script, from what its parts print.
-use Rattle.std.proofs.Common.{◌≡◌, inl, inr, ℕ, Bool, true, false, List, [], ◌++◌, Option, Some, refl, sym, subst, arith, append-nil}
+use Rattle.std.proofs.Common.{◌≡◌, inl, inr, ℕ, Bool, true, false, List, [], ◌++◌, length, Option, Some, refl, sym, subst, arith, append-nil}
 use Rattle.std.specs.Prelude.{map}
 use Rattle.std.specs.Io.KnownBytes.{Appends}
 use Rattle.std.proofs.KnownBytes.{Appends-trans}
@@ -22,7 +22,7 @@ use Rattle.fairexec_run.specs.Rooms.{IsOpened}
 use Rattle.fairexec_run.specs.Transcripts.{ScriptWorld, PrintsAll, IsOutput, RunsOf}
 use Rattle.fairexec_run.proofs.RearLemmas.{all_out, front_out, from_nothing, joined_front}
 
-module _ (script : Drafted) (cores cap : ℕ) (size : script.size ≡ Some (cores, cap)) (model : ScriptWorld) (opened : IsOpened cores cap script.burst script.queues model) (start : List ℕ) (empty : start ≡ []) (old : Option (List ℕ)) where
+module _ (script : Drafted) (cores cap : ℕ) (size : script.size ≡ Some (cores, cap)) (model : ScriptWorld) (opened : IsOpened cores cap script.burst (length script.events) script.queues model) (start : List ℕ) (empty : start ≡ []) (old : Option (List ℕ)) where
   -- the first events were printed
   pub first_begun : (stats : Bool) (new : Option (List ℕ)) → WritesFirst script.events model start old new → BreaksOff false stats script old new
   first_begun stats new is = inr (record {
@@ -96,7 +96,7 @@ no_part true assembly = (0, omega arith, no_cores assembly.cores assembly.burst 
 no_part false assembly = refl
 
 module _ (script : Drafted) (cores cap : ℕ) (size : script.size ≡ Some (cores, cap))
-    (model : ScriptWorld) (opened : IsOpened cores cap script.burst script.queues model)
+    (model : ScriptWorld) (opened : IsOpened cores cap script.burst (length script.events) script.queues model)
     (assembly : Assembly ℕ) (runs : RunsOf (map event_of script.events) model assembly)
     (spelled : IsSpelled assembly) (joined : AreJoined assembly) (sound : IsSound assembly) where
   run_text : IsRunText script assembly (journal_text assembly)

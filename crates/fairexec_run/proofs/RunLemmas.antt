@@ -25,13 +25,13 @@ run_size (event ∷ events) old new bursts (between, answer, one, rest) =
     let later = run_size events between new (subst IsBurst (sym grows.burst) bursts) rest in
     record { cores = later.cores ∙ grows.cores; cap = later.cap ∙ grows.cap; burst = later.burst ∙ grows.burst }
 
-pub run_spelled : (cores cap burst : ℕ) (queues : List (ℕ × ℕ)) (model : ScriptWorld) → IsOpened cores cap burst queues model → IsSize cores cap → IsBurst burst → (events : List (Event Script)) (assembly : Assembly ℕ) →
+pub run_spelled : (cores cap burst count : ℕ) (queues : List (ℕ × ℕ)) (model : ScriptWorld) → IsOpened cores cap burst count queues model → IsSize cores cap → IsBurst burst → (events : List (Event Script)) (assembly : Assembly ℕ) →
     RunsOf events model assembly → AreJoined assembly → IsSpelled assembly
-run_spelled cores cap burst queues model opened size bursts events assembly (end, runs, is) joined =
-    let opened_with = opened_burst cores cap burst queues model opened in
+run_spelled cores cap burst count queues model opened size bursts events assembly (end, runs, is) joined =
+    let opened_with = opened_burst cores cap burst count queues model opened in
     let same = run_size events model end (subst IsBurst (sym opened_with) bursts) runs in
-    let cores_are : assembly.cores ≡ cores = ap (λ all. all.cores) is ∙ same.cores ∙ opened_cores cores cap burst queues model opened in
-    let cap_is : assembly.cap ≡ cap = ap (λ all. all.cap) is ∙ same.cap ∙ opened_cap cores cap burst queues model opened in
+    let cores_are : assembly.cores ≡ cores = ap (λ all. all.cores) is ∙ same.cores ∙ opened_cores cores cap burst count queues model opened in
+    let cap_is : assembly.cap ≡ cap = ap (λ all. all.cap) is ∙ same.cap ∙ opened_cap cores cap burst count queues model opened in
     let burst_is : assembly.burst ≡ burst = ap (λ all. all.burst) is ∙ same.burst ∙ opened_with in
     let some_core = size.some_cores in
     let few_cores = size.few_cores in

@@ -1,8 +1,9 @@
 -- A lawful journal has few submissions, where its links agree: a core was sent at most as many as it was delivered, and as many more as its link holds.
-use Rattle.std.proofs.Common.{◌≡◌, ◌≤◌, ◌<◌, ◌⊎◌, inl, inr, ℕ, zero, suc, ◌+◌, ◌*◌, Bool, true, false, cond, [], ◌∷◌, ◌++◌, length, refl, sym, ap, subst, ◌∙◌, arith, zero-add, ◌-◌}
+use Rattle.std.proofs.Common.{◌≡◌, ◌≤◌, ◌<◌, ◌⊎◌, inl, inr, ℕ, zero, suc, ◌+◌, ◌*◌, Bool, true, false, cond, List, [], ◌∷◌, ◌++◌, length, refl, sym, ap, subst, ◌∙◌, arith, zero-add, take, get_or}
 use Rattle.std.specs.Prelude.{◌==◌, nat_lt, Option, Some, None, count_by}
 use Rattle.std.proofs.lemmas.Bool.{eqb-true, eqb-false, ltb-true, ltb-false, lt-ltb}
 use Rattle.std.proofs.lemmas.List.Sums.{sum_by-append}
+use Rattle.std.proofs.lemmas.Option.{unwrap_or-slice_get}
 use Rattle.base_words.specs.declared.names.JobId.{JobId}
 use Rattle.base_words.specs.declared.note.Note.{Note}
 use Rattle.base_words.specs.declared.note.Note.TheVariants.{Sent, Took, Back, Answered}
@@ -15,10 +16,10 @@ use Rattle.base_words.specs.Outstanding.{is_outstanding, outstanding_count}
 use Rattle.base_words.specs.Terms.{Terms, terms_of}
 use Rattle.base_words.specs.Work.{number_if}
 use Rattle.base_words.proofs.Told.{length-with_last_if}
-use Rattle.fairexec_run.specs.Counts.{name_sent, sent_count, delivered_count}
+use Rattle.fairexec_run.specs.Counts.{name_sent, sent_count, delivered_count, delivered_in}
+use Rattle.fairexec_run.proofs.CountLemmas.{delivered_first, delivered_next}
 use Rattle.fairexec_run.proofs.Growing.{lt_or_le}
 use Rattle.fairexec_run.proofs.UpTo.{AreUpTo, up_to_front, up_to_parts, outstanding_past, given_up_to}
-use Rattle.fairexec_script.specs.TextLimits.{most_lines}
 
 -- of the orders that a core was sent, those under greater numbers have the property
 accepted_many : (terms : Terms) (core most : ℕ) (has : JobId → Bool) (journal : Journal ℕ) → EachNote (MayStand terms) journal → ((name : JobId) → name.to ≡ core → most < name.number → has name ≡ true) →
@@ -135,12 +136,14 @@ next_below core (note ∷ before) = by_note note (next_below core before)
         omega arith
     by_note _ few = omega arith
 
-few_below : (most count : ℕ) (journal : Journal ℕ) → most ≤ most_lines + 1023 → ((core : ℕ) → core < count → length (accepted_orders core journal) ≤ most) → sent_below count journal ≤ (most_lines + 1023) * count
-few_below most zero journal within each = let none = none_below journal in omega arith
-few_below most (suc count) journal within each =
-    let rest = few_below most count journal within (λ core low. each core (omega arith)) in
+few_below : (cap count : ℕ) (journals : List (Journal ℕ)) (journal : Journal ℕ) → ((core : ℕ) → core < count → length (accepted_orders core journal) ≤ delivered_count (get_or journals core []) + cap) →
+    sent_below count journal ≤ delivered_in (take count journals) + count * cap
+few_below cap zero journals journal each = let none = none_below journal in omega arith
+few_below cap (suc count) journals journal each =
+    let rest = few_below cap count journals journal (λ core low. each core (omega arith)) in
     let next = next_below count journal in
     let last = each count (omega arith) in
+    let told = delivered_next journals count in
     omega arith
 
 -- each submission is to one of the cores
@@ -152,15 +155,15 @@ all_below terms (note ∷ before) notes = by_note note (notes.0).may_follow (all
     by_note (Sent name order) law few = let low : nat_lt name.to terms.cores ≡ true = lt-ltb name.to terms.cores law.receiver in rw low (omega arith)
     by_note _ law few = omega arith
 
--- an actor of a system within its limits, whose cores were delivered few orders, has few submissions
-pub sent_within : (assembly : Assembly ℕ) → AreJoined assembly → (sender : ℕ) → sender ≤ assembly.cores → assembly.cores ≤ 16 → assembly.cap ≤ 1024 →
-    ((core : ℕ) → delivered_count (journal_of core assembly) ≤ most_lines - 1) → sent_count (journal_of sender assembly) ≤ 16 * (most_lines + 1023)
-sent_within assembly joined sender there cores cap each =
+-- an actor has as many submissions at most as orders were delivered and its links hold
+pub sent_within : (assembly : Assembly ℕ) → AreJoined assembly → (sender : ℕ) → sender ≤ assembly.cores → sent_count (journal_of sender assembly) ≤ delivered_in assembly.journals + assembly.cores * assembly.cap
+sent_within assembly joined sender there =
     let all = all_below (terms_of sender assembly) (journal_of sender assembly) (joined.lawful sender there).notes in
-    let few = few_below (most_lines + 1023) assembly.cores (journal_of sender assembly) (omega arith)
+    let first = delivered_first assembly.journals assembly.cores in
+    let few = few_below assembly.cap assembly.cores assembly.journals (journal_of sender assembly)
     (λ core low.
     let sent = sent_to assembly joined sender core there low in
     let some = delivered_few sender (journal_of core assembly) in
-    let delivered = each core in
+    let same = ap delivered_count (unwrap_or-slice_get assembly.journals core []) in
     omega arith) in
     omega arith

@@ -109,8 +109,8 @@ further_few core spent (name ∷ later) old new (next, one, rest) low =
     let few = further_few core spent later next new rest (omega arith) in
     omega arith
 
--- a turn within the burst
-pub polls_grow : (core spent : ℕ) (old new : ScriptWorld) → IsBurst old.burst → MakesPolls script_meaning core spent old new → Grows 322 194 0 core old new
+-- a turn within the burst: three notes a poll that nothing pays, one for the pick and one for the end
+pub polls_grow : (core spent : ℕ) (old new : ScriptWorld) → IsBurst old.burst → MakesPolls script_meaning core spent old new → Grows 322 (3 * old.burst + 2) 0 core old new
 polls_grow core spent old new bursts is =
     let first = first_grows core spent old is.mid is.first in
     let same = first.burst in
@@ -118,7 +118,7 @@ polls_grow core spent old new bursts is =
     let most = bursts.few_polls in
     let counted : polls_at core is.mid ≡ 1 = poll_counts core spent (is.first).queue (is.first).name (written.Pick (is.first).queue (is.first).runtime ∷ []) old is.mid (is.first).poll in
     let few = further_few core spent is.later is.mid new is.further (omega arith) in
-    grows_within (6 + (5 * length is.later + 1)) (4 + (3 * length is.later + 1)) (0 + 0) 322 194 0 core old new (omega arith) (omega arith) (omega arith)
+    grows_within (6 + (5 * length is.later + 1)) (4 + (3 * length is.later + 1)) (0 + 0) 322 (3 * old.burst + 2) 0 core old new (omega arith) (omega arith) (omega arith)
     (grows_then 6 4 0 (5 * length is.later + 1) (3 * length is.later + 1) 0 core old is.mid new first (further_grows core spent is.later is.mid new is.further))
 
 -- where each poll is a turn, nothing follows the first one
@@ -127,8 +127,9 @@ only_one core spent [] old new form is = subst (λ form. Ends form core old new)
 only_one core spent (name ∷ later) old new form (next, one, rest) =
     let none : ◌≡◌ {A = Option ℕ} None (Some one.queue) = rw form at one.goes_on.in_turn in cc
 
-pub poll_grows : (core spent : ℕ) (old new : ScriptWorld) → has_bursts old.burst ≡ false → MakesPolls script_meaning core spent old new → Grows 6 194 0 core old new
-poll_grows core spent old new form is =
+pub poll_grows : (core spent : ℕ) (old new : ScriptWorld) → has_bursts old.burst ≡ false → IsBurst old.burst → MakesPolls script_meaning core spent old new → Grows 6 (3 * old.burst + 2) 0 core old new
+poll_grows core spent old new form bursts is =
+    let some = bursts.some_poll in
     let first = first_grows core spent old is.mid is.first in
     let same = only_one core spent is.later is.mid new (ap has_bursts first.burst ∙ form) is.further in
-    subst (Grows 6 194 0 core old) (sym same) (grows_within 6 4 0 6 194 0 core old is.mid (omega arith) (omega arith) (omega arith) first)
+    subst (Grows 6 (3 * old.burst + 2) 0 core old) (sym same) (grows_within 6 4 0 6 (3 * old.burst + 2) 0 core old is.mid (omega arith) (omega arith) (omega arith) first)

@@ -1,5 +1,5 @@
 -- A world after one event: its size stays, and each journal is a few notes longer.
-use Rattle.std.proofs.Common.{◌≡◌, inl, inr, ℕ, ◌+◌, ◌*◌, ◌≤◌, List, [], ◌∷◌, length, Bool, true, false, Option, Some, None, refl, sym, ap, subst, arith, ◌-◌}
+use Rattle.std.proofs.Common.{◌≡◌, inl, inr, ℕ, ◌+◌, ◌*◌, ◌≤◌, List, [], ◌∷◌, length, Bool, true, false, Option, Some, None, refl, sym, ap, subst, arith}
 use Rattle.base_words.specs.declared.names.JobId.{JobId}
 use Rattle.base_words.specs.declared.note.Note.{Note}
 use Rattle.base_words.specs.declared.note.Note.TheVariants as written
@@ -29,7 +29,7 @@ use Rattle.base_words.specs.Assembly.{journal_of}
 use Rattle.base_words.specs.Joining.{AreJoined}
 use Rattle.base_words.specs.Outcomes.{outcome_note}
 use Rattle.base_words.specs.Terms.{terms_of}
-use Rattle.fairexec_run.specs.Counts.{sent_count, collected_count, delivered_count}
+use Rattle.fairexec_run.specs.Counts.{sent_count, collected_count, delivered_count, delivered_in}
 use Rattle.fairexec_run.proofs.Growing.{Grows, grows_within, stays, adds_to}
 use Rattle.fairexec_run.proofs.CallSteps.{send_grows, detach_grows}
 use Rattle.fairexec_run.proofs.TurnSteps.{polls_grow, poll_grows}
@@ -40,7 +40,6 @@ use Rattle.model_world.specs.Runs.{Steps}
 use Rattle.fairexec_script.specs.Limits.{IsBurst}
 use Rattle.fairexec_run.specs.Rooms.{IsRoomy}
 use Rattle.fairexec_run.specs.Transcripts.{ScriptWorld, Occurs, IsHeard}
-use Rattle.fairexec_script.specs.TextLimits.{most_lines}
 
 few_effects : (effect : Option (Note ℕ)) (notes : List (Note ℕ)) → length (with_effect effect notes) ≤ length notes + 1
 few_effects None notes = omega arith
@@ -116,20 +115,20 @@ plain_grows (Collect sender core) old new answer plain is = collect_grows sender
 plain_grows (Redeem sender name) old new answer plain is = grows_within 1 1 0 6 3 1 sender old new (omega arith) (omega arith) (omega arith) (redeem_grows sender name old new answer is)
 plain_grows (Detach sender name) old new answer plain is = grows_within 1 1 0 6 3 1 sender old new (omega arith) (omega arith) (omega arith) (detach_grows sender name old new answer is)
 
-module _ (most : ℕ) (enough : 6 ≤ most) (old : ScriptWorld) (polls : (core spent : ℕ) (new : ScriptWorld) → MakesPolls script_meaning core spent old new → Grows most 194 0 core old new) where
-  turn_grows : (core spent : ℕ) (new : ScriptWorld) (answer : Reply Script) → Turns script_meaning core spent old new answer → Grows most 194 1 core old new
-  turn_grows core spent new reply.Noted (inl is) = grows_within most 194 0 most 194 1 core old new (omega arith) (omega arith) (omega arith) (polls core spent new is)
+module _ (most unpaid : ℕ) (enough : 6 ≤ most) (some : 3 ≤ unpaid) (old : ScriptWorld) (polls : (core spent : ℕ) (new : ScriptWorld) → MakesPolls script_meaning core spent old new → Grows most unpaid 0 core old new) where
+  turn_grows : (core spent : ℕ) (new : ScriptWorld) (answer : Reply Script) → Turns script_meaning core spent old new answer → Grows most unpaid 1 core old new
+  turn_grows core spent new reply.Noted (inl is) = grows_within most unpaid 0 most unpaid 1 core old new (omega arith) (omega arith) (omega arith) (polls core spent new is)
   turn_grows core spent new reply.Noted (inr is) =
       let notes = written.Returned is.name is.reason ∷ written.Pick is.queue is.runtime ∷ [] in
-      adds_to core notes old most 194 1 (record { counted = omega arith; paid = omega arith; delivered = omega arith }) new is.notes
-  turn_grows core spent new reply.Idle is = stays most 194 1 core old new is.1
-  turn_grows core spent new reply.Spent is = stays most 194 1 core old new is.2
+      adds_to core notes old most unpaid 1 (record { counted = omega arith; paid = omega arith; delivered = omega arith }) new is.notes
+  turn_grows core spent new reply.Idle is = stays most unpaid 1 core old new is.1
+  turn_grows core spent new reply.Spent is = stays most unpaid 1 core old new is.2
   turn_grows core spent new other is = absurd is
 
-  within : (actor : ℕ) (new : ScriptWorld) → Grows 6 3 1 actor old new → Grows most 194 1 actor old new
-  within actor new grows = grows_within 6 3 1 most 194 1 actor old new enough (omega arith) (omega arith) grows
+  within : (actor : ℕ) (new : ScriptWorld) → Grows 6 3 1 actor old new → Grows most unpaid 1 actor old new
+  within actor new grows = grows_within 6 3 1 most unpaid 1 actor old new enough (omega arith) (omega arith) grows
 
-  step_grows : (event : Event Script) (new : ScriptWorld) (answer : Reply Script) → Steps script_meaning event old new answer → Grows most 194 1 (actor_of event) old new
+  step_grows : (event : Event Script) (new : ScriptWorld) (answer : Reply Script) → Steps script_meaning event old new answer → Grows most unpaid 1 (actor_of event) old new
   step_grows (Turn core spent) new answer is = turn_grows core spent new answer is
   step_grows (Send sender core what) new answer is = within sender new (plain_grows (Send sender core what) old new answer tt is)
   step_grows (Deliver core sender) new answer is = within core new (plain_grows (Deliver core sender) old new answer tt is)
@@ -138,18 +137,20 @@ module _ (most : ℕ) (enough : 6 ≤ most) (old : ScriptWorld) (polls : (core s
   step_grows (Redeem sender name) new answer is = within sender new (plain_grows (Redeem sender name) old new answer tt is)
   step_grows (Detach sender name) new answer is = within sender new (plain_grows (Detach sender name) old new answer tt is)
 
-  occurs_grows : (event : Event Script) (new : ScriptWorld) (answer : Reply Script) → Occurs event old new answer → Grows most 194 1 (actor_of event) old new
-  occurs_grows event new (reply.NoActor back) is = stays most 194 1 (actor_of event) old new is.2
-  occurs_grows event new (reply.NoRoom back) is = stays most 194 1 (actor_of event) old new is.3
+  occurs_grows : (event : Event Script) (new : ScriptWorld) (answer : Reply Script) → Occurs event old new answer → Grows most unpaid 1 (actor_of event) old new
+  occurs_grows event new (reply.NoActor back) is = stays most unpaid 1 (actor_of event) old new is.2
+  occurs_grows event new (reply.NoRoom back) is = stays most unpaid 1 (actor_of event) old new is.3
   occurs_grows event new answer is = step_grows event new answer is.2
 
 -- what an event leaves
-pub event_grows : (event : Event Script) (old new : ScriptWorld) (answer : Reply Script) → IsBurst old.burst → Occurs event old new answer → Grows 322 194 1 (actor_of event) old new
-event_grows event old new answer bursts is = occurs_grows 322 (omega arith) old (λ core spent new made. polls_grow core spent old new bursts made) event new answer is
+pub event_grows : (event : Event Script) (old new : ScriptWorld) (answer : Reply Script) → IsBurst old.burst → Occurs event old new answer → Grows 322 (3 * old.burst + 2) 1 (actor_of event) old new
+event_grows event old new answer bursts is =
+    let poll = bursts.some_poll in occurs_grows 322 (3 * old.burst + 2) (omega arith) (omega arith) old (λ core spent new made. polls_grow core spent old new bursts made) event new answer is
 
 -- the same, where each poll is a turn
-pub event_short : (event : Event Script) (old new : ScriptWorld) (answer : Reply Script) → has_bursts old.burst ≡ false → Occurs event old new answer → Grows 6 194 1 (actor_of event) old new
-event_short event old new answer form is = occurs_grows 6 (omega arith) old (λ core spent new made. poll_grows core spent old new form made) event new answer is
+pub event_short : (event : Event Script) (old new : ScriptWorld) (answer : Reply Script) → has_bursts old.burst ≡ false → IsBurst old.burst → Occurs event old new answer → Grows 6 (3 * old.burst + 2) 1 (actor_of event) old new
+event_short event old new answer form bursts is =
+    let poll = bursts.some_poll in occurs_grows 6 (3 * old.burst + 2) (omega arith) (omega arith) old (λ core spent new made. poll_grows core spent old new form bursts made) event new answer is
 
 -- an event whose actors exist and whose journal has room isn't handed back
 pub is_heard : (event : Event Script) (old new : ScriptWorld) (answer : Reply Script) → Occurs event old new answer → AreThere old.cores event → (IsNearlyFull (actor_of event) old → ⊥) → IsHeard answer
@@ -158,7 +159,7 @@ is_heard event old new (reply.NoRoom back) is here free = free is.2
 is_heard event old new answer is here free = tt
 
 -- a journal has room for an event, if it is lawful and its links agree
-pub is_free : (actor : ℕ) (world : ScriptWorld) → actor ≤ world.cores → AreJoined (assembly_of world) → IsRoomy world.cores world.cap world.burst (most_lines - 1) world → IsNearlyFull actor world → ⊥
+pub is_free : (actor : ℕ) (world : ScriptWorld) → actor ≤ world.cores → AreJoined (assembly_of world) → IsRoomy world.cores world.cap world.burst 1 world → IsNearlyFull actor world → ⊥
 is_free actor world within joined roomy full = by_form (has_bursts world.burst) refl
   where
     same : (any : ℕ) → journal_of any (assembly_of world) ≡ journal_at any world
@@ -169,20 +170,16 @@ is_free actor world within joined roomy full = by_form (has_bursts world.burst) 
         subst (λ journal. collected_count journal ≤ sent_count journal) (same actor)
         (collected_at_most_sent (terms_of actor (assembly_of world)) (journal_of actor (assembly_of world)) (joined.lawful actor within).notes)
 
-    sent : sent_count (journal_at actor world) ≤ 16 * (most_lines + 1023)
-    sent =
-        subst (λ journal. sent_count journal ≤ 16 * (most_lines + 1023)) (same actor)
-        (sent_within (assembly_of world) joined actor within roomy.size.few_cores roomy.size.small_cap (λ core. subst (λ journal. delivered_count journal ≤ most_lines - 1) (sym (same core)) (roomy.delivered core)))
+    sent : sent_count (journal_at actor world) ≤ delivered_in world.journals + world.cores * world.cap
+    sent = subst (λ journal. sent_count journal ≤ delivered_in world.journals + world.cores * world.cap) (same actor) (sent_within (assembly_of world) joined actor within)
 
     by_form : (form : Bool) → has_bursts world.burst ≡ form → ⊥
     by_form true form =
-        let room : world.room ≡ 256 * most_lines + 3 * world.cores * world.cap + 2 * world.burst + 2 = rw form at roomy.room_is in
-        let paid = roomy.paid actor in
+        let paid = roomy.paid form actor in
         let less = collected in
         let few = sent in
         absurd (omega arith)
     by_form false form =
-        let room : world.room ≡ 8 * most_lines + 3 * world.cores * world.cap + 4 = rw form at roomy.room_is in
         let short = roomy.short form actor in
         let less = collected in
         let one = ltb-false 1 world.burst form in

@@ -4,6 +4,7 @@ use Rattle.base_words.specs.Assembly.{Assembly}
 use Rattle.base_jobs.specs.Scripts.{Script}
 use Rattle.model_world.specs.declared.event.Event.{Event}
 use Rattle.model_world.specs.declared.event.Reply.TheVariants as reply
+use Rattle.model_world.specs.State.{journal_at}
 use Rattle.fairexec_script.specs.Drafts.{Drafted}
 use Rattle.fairexec_run.specs.Begun.{IsRearPart, IsCutShort, IsFirstText}
 use Rattle.fairexec_run.specs.Outputs.{IsDone}
@@ -34,6 +35,7 @@ pub record OutputsAreRefused : Type 0 where
   -- an event of an actor that isn't there, and one without room for its notes
   pub of_none : (back : Event Script) → IsHeard (reply.NoActor back) → ⊥
   pub no_room : (back : Event Script) → IsHeard (reply.NoRoom back) → ⊥
-  -- journals with room for 100 notes, and a queue more than a core may have
-  pub short_journals : (world : ScriptWorld) → world.room ≡ 100 → IsRoomy 1 1 1 0 world → ⊥
+  -- journals whose room is a note too small for an event, in turns of one poll and of two; and a queue more than a core may have
+  pub short_journals : (world : ScriptWorld) → journal_at 0 world ≡ [] → world.room ≡ 12 → IsRoomy 1 1 1 1 world → ⊥
+  pub short_in_bursts : (world : ScriptWorld) → journal_at 0 world ≡ [] → world.room ≡ 20 → IsRoomy 1 1 2 1 world → ⊥
   pub many_queues : (world : ScriptWorld) → MayMake (replicate 256 (0, 500)) world → ⊥

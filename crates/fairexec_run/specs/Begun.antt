@@ -1,5 +1,5 @@
 -- What is written of a run that ends early: a beginning of what it prints.
-use Rattle.std.specs.Prelude.{◌≡◌, ◌⊎◌, ℕ, ◌≤◌, Bool, true, false, List, [], ◌++◌, Option, Some, Ok}
+use Rattle.std.specs.Prelude.{◌≡◌, ◌⊎◌, ℕ, ◌≤◌, Bool, true, false, List, [], ◌++◌, length, Option, Some, Ok}
 use Rattle.std.specs.Io.KnownBytes.{Keeps}
 use Rattle.std.specs.Option.{IfSome}
 use Rattle.base_words.specs.Assembly.{Assembly, journal_of}
@@ -28,7 +28,7 @@ pub record IsFirstText (script : Drafted) (text : List ℕ) : Type 0 where
   pub cap : ℕ
   pub size : script.size ≡ Some (cores, cap)
   pub empty : ScriptWorld
-  pub fresh : IsFresh cores cap script.burst (script_room cores cap script.burst) empty
+  pub fresh : IsFresh cores cap script.burst (script_room cores cap script.burst (length script.events)) empty
   pub first : List ScriptEvent
   pub others : List ScriptEvent
   pub end : ScriptWorld

@@ -1,5 +1,5 @@
 -- How many submissions a journal has, how many outcomes were collected, and how many orders were delivered.
-use Rattle.std.specs.Prelude.{ℕ, ◌+◌, [], ◌∷◌, Option, None, Some}
+use Rattle.std.specs.Prelude.{ℕ, ◌+◌, List, [], ◌∷◌, Option, None, Some}
 use Rattle.base_words.specs.declared.names.JobId.{JobId}
 use Rattle.base_words.specs.declared.note.Note.{Note}
 use Rattle.base_words.specs.declared.note.Note.TheVariants.{Sent, Took, Back, Answered}
@@ -36,3 +36,8 @@ one_if_delivered _ = 0
 abbrev pub delivered_count : Journal ℕ → ℕ
 delivered_count [] = 0
 delivered_count (note ∷ before) = one_if_delivered note + delivered_count before
+
+-- how many all of these journals tell
+abbrev pub delivered_in : List (Journal ℕ) → ℕ
+delivered_in [] = 0
+delivered_in (journal ∷ journals) = delivered_count journal + delivered_in journals

@@ -1,5 +1,5 @@
 -- What is printed of a script, by what is wanted: its events or its journals, and the statistics behind them.
-use Rattle.std.specs.Prelude.{◌≡◌, ℕ, Bool, true, false, List, ◌++◌, map, Option, Some}
+use Rattle.std.specs.Prelude.{◌≡◌, ℕ, Bool, true, false, List, ◌++◌, length, map, Option, Some}
 use Rattle.base_words.specs.Assembly.{Assembly, journal_of}
 use Rattle.base_words.specs.Joining.{AreJoined}
 use Rattle.base_words.specs.Sound.{IsSound}
@@ -19,7 +19,7 @@ pub record IsRunText (script : Drafted) (assembly : Assembly ℕ) (text : List �
   pub cap : ℕ
   pub size : script.size ≡ Some (cores, cap)
   pub empty : ScriptWorld
-  pub fresh : IsFresh cores cap script.burst (script_room cores cap script.burst) empty
+  pub fresh : IsFresh cores cap script.burst (script_room cores cap script.burst (length script.events)) empty
   pub runs : RunsOf (map event_of script.events) (with_queues script.queues empty) assembly
   pub spelled : IsSpelled assembly
   pub joined : AreJoined assembly

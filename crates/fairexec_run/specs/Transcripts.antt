@@ -1,5 +1,5 @@
 -- What is printed of a script's events.
-use Rattle.std.specs.Prelude.{◌≡◌, ℕ, ◌+◌, ◌*◌, ◌++◌, List, [], ◌∷◌, reverse, Some, if◌then◌else◌}
+use Rattle.std.specs.Prelude.{◌≡◌, ℕ, ◌+◌, ◌*◌, ◌++◌, List, [], ◌∷◌, length, reverse, Some, if◌then◌else◌}
 use Rattle.base_words.specs.declared.note.Note.{Note}
 use Rattle.base_words.specs.declared.note.Note.TheVariants.{Created}
 use Rattle.base_words.specs.Bursts.{has_bursts}
@@ -20,7 +20,6 @@ use Rattle.base_jobs.specs.ScriptMeaning.{script_meaning}
 use Rattle.fairexec_script.specs.Drafts.{Drafted}
 use Rattle.fairexec_run.specs.Replies.{event_of, ends_of, quiet_of}
 use Rattle.fairexec_run.specs.EventTexts.{event_text}
-use Rattle.fairexec_script.specs.TextLimits.{most_lines}
 
 -- a world of script jobs
 abbrev pub ScriptWorld : Type 0
@@ -68,12 +67,12 @@ abbrev pub with_queues : List (ℕ × ℕ) → ScriptWorld → ScriptWorld
 with_queues [] world = world
 with_queues (queue ∷ queues) world = with_queues queues (with_queue queue world)
 
--- The room of a journal in a system of this size, with such turns: more than all lines of a script fill. Each line has room for 8 notes, or for 256 if
--- a turn may have many polls, and the places of the links and a turn have their own (`IsRoomy`).
-abbrev pub script_room : ℕ → ℕ → ℕ → ℕ
-script_room cores cap burst =
-    if has_bursts burst then 256 * most_lines + 3 * cores * cap + 2 * burst + 2
-    else 8 * most_lines + 3 * cores * cap + 4
+-- The room of a journal in a system of this size, with such turns and so many events: more than they fill. Each event has room for 6 notes, or for
+-- three a poll and four if a turn may have many polls; the queues of a core, the places of the links and a turn have their own (`IsRoomy`).
+abbrev pub script_room : ℕ → ℕ → ℕ → ℕ → ℕ
+script_room cores cap burst events =
+    if has_bursts burst then (3 * burst + 4) * events + 256 + 5 * cores * cap + 2 * burst + 2
+    else 6 * events + 256 + 3 * cores * cap + 4
 
 -- what is printed of a whole script; behind it stands a journal for each actor, lawful and joined, and they are sound together
 pub record IsOutput (script : Drafted) (output : List ℕ) : Type 0 where
@@ -81,7 +80,7 @@ pub record IsOutput (script : Drafted) (output : List ℕ) : Type 0 where
   pub cap : ℕ
   pub size : script.size ≡ Some (cores, cap)
   pub empty : ScriptWorld
-  pub fresh : IsFresh cores cap script.burst (script_room cores cap script.burst) empty
+  pub fresh : IsFresh cores cap script.burst (script_room cores cap script.burst (length script.events)) empty
   pub end : ScriptWorld
   pub all : PrintsAll script.events (with_queues script.queues empty) end output
   pub lists : HasAllLists end

@@ -23,7 +23,6 @@ use crate::journal::{events_of, print_journal, print_rear};
 use crate::print::{FULL_PAGE, LONGEST_PRINT, Model, print_events};
 use base_words::{CoreNo, Shares};
 use core_queues::CreateError;
-use fairexec_script::limits::MOST_LINES;
 use fairexec_script::{Script, read_script};
 use model_world::{World, WorldError};
 use std::alloc::Global;
@@ -105,7 +104,7 @@ fn play_events<S: ByteSink>(
         queues,
         events,
     } = script;
-    let mut model = open_model(alloc, cores, cap, burst, queues.as_slice())?;
+    let mut model = open_model(alloc, cores, cap, burst, events.len(), queues.as_slice())?;
     let mut page = String::with_capacity(alloc, FULL_PAGE + LONGEST_PRINT)?;
     print_events(alloc, &mut model, events, &mut page, sink)?;
     // These calls do nothing. Their contracts say what an output claims of the journals behind it.
@@ -135,7 +134,7 @@ fn play_journal<S: ByteSink>(
         queues,
         events,
     } = script;
-    let model = open_model(alloc, cores, cap, burst, queues.as_slice())?;
+    let model = open_model(alloc, cores, cap, burst, events.len(), queues.as_slice())?;
     let events = events_of(alloc, events)?;
     let mut page = String::with_capacity(alloc, FULL_PAGE + LONGEST_PRINT)?;
     let assembly = model.run(events);
@@ -143,36 +142,45 @@ fn play_journal<S: ByteSink>(
     print_rear(alloc, stats, &assembly, &mut page, sink)
 }
 
-/// A world of so many cores with links of that capacity, with turns of so many polls and with these queues. Its journals have room for all notes of a script.
+/// A world of so many cores with links of that capacity, with turns of so many polls and with these queues. Its journals have room for all notes of so many events.
 fn open_model(
     alloc: Global,
     cores: u8,
     cap: u16,
     burst: u8,
+    events: usize,
     queues: &[(CoreNo, Shares)],
 ) -> Result<Model, Fault<Cause>>
     requires sized { IsSize cores cap }
     requires bursts { IsBurst burst }
+    requires short { events ≤ most_lines }
     requires few { HasFewQueues queues.now }
     requires placed { ArePlaced (Some (cores, cap)) queues.now }
-    ensures ok { IfOk result (IsOpened cores cap burst queues.now) }
+    ensures ok { IfOk result (IsOpened cores cap burst events queues.now) }
     ensures device { IfErr result (IfUnread ⊥) }
     ensures quiet { IfErr result (IfUnwritten ⊥) }
 {
-    let mut model = empty_model(alloc, cores, cap, burst)?;
+    let mut model = empty_model(alloc, cores, cap, burst, events)?;
     create_queues(&mut model, queues)?;
     Ok(model)
 }
 
 /// The same without queues.
-fn empty_model(alloc: Global, cores: u8, cap: u16, burst: u8) -> Result<Model, Fault<Cause>>
+fn empty_model(
+    alloc: Global,
+    cores: u8,
+    cap: u16,
+    burst: u8,
+    events: usize,
+) -> Result<Model, Fault<Cause>>
     requires sized { IsSize cores cap }
     requires bursts { IsBurst burst }
-    ensures ok { IfOk result (IsFresh cores cap burst (spec.script_room cores cap burst)) }
+    requires short { events ≤ most_lines }
+    ensures ok { IfOk result (IsFresh cores cap burst (spec.script_room cores cap burst events)) }
     ensures device { IfErr result (IfUnread ⊥) }
     ensures quiet { IfErr result (IfUnwritten ⊥) }
 {
-    let room = script_room(cores, cap, burst);
+    let room = script_room(cores, cap, burst, events as u32);
     match World::try_new_burst(alloc, alloc, cores, cap, burst, room) {
         Ok(model) => Ok(model),
         Err(WorldError::Memory) => Err(Fault::Memory),
@@ -180,19 +188,21 @@ fn empty_model(alloc: Global, cores: u8, cap: u16, burst: u8) -> Result<Model, F
     }
 }
 
-/// The room of a journal: more than all lines of a script fill.
-fn script_room(cores: u8, cap: u16, burst: u8) -> u32
+/// The room of a journal: more than so many events fill.
+fn script_room(cores: u8, cap: u16, burst: u8, events: u32) -> u32
     requires sized { IsSize cores cap }
     requires bursts { IsBurst burst }
-    ensures room { result ≡ spec.script_room cores cap burst }
-    ensures low { result ≤ 256 * most_lines + 49282 }
+    requires short { events ≤ most_lines }
+    ensures room { result ≡ spec.script_room cores cap burst events }
+    ensures low { result ≤ 885122 }
 {
-    // 3 * 16 * 1024 places are 49152, so the sum is at most 256 * MOST_LINES + 49152 + 2 * 64 + 2.
-    let places = 3 * u32::from(cores) * u32::from(cap);
+    // 5 * 16 * 1024 places are 81920, and 196 * 4096 notes 802816, so the sum is at most 802816 + 256 + 81920 + 2 * 64 + 2.
+    let places = u32::from(cores) * u32::from(cap);
+    let burst = u32::from(burst);
     if burst > 1 {
-        256 * MOST_LINES + places + 2 * u32::from(burst) + 2
+        (3 * burst + 4) * events + 256 + 5 * places + 2 * burst + 2
     } else {
-        8 * MOST_LINES + places + 4
+        6 * events + 256 + 3 * places + 4
     }
 }
 

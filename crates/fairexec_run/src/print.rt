@@ -1,6 +1,6 @@
 //! Lets the events of a script happen, and prints each.
 
-ghost use Rattle.std.specs.Prelude.{◌≡◌, ◌≤◌, ◌-◌, ◌++◌, [], ℕ, List, length, drop, reverse, IfErr, OnOk, OnErr, Some, string_bytes};
+ghost use Rattle.std.specs.Prelude.{◌≡◌, ◌≤◌, ◌++◌, [], ℕ, List, length, drop, reverse, IfErr, OnOk, OnErr, Some, string_bytes};
 ghost use Rattle.std.specs.Io.KnownBytes.{Appends};
 ghost use Rattle.fairexec_script.specs.Limits.{AreEventsOf, IsEventOf};
 ghost use Rattle.text_journal.specs.Pages.{AppendsFront};
@@ -11,7 +11,6 @@ ghost use Rattle.fairexec_run.specs.Outputs.{WritesAll};
 ghost use Rattle.fairexec_run.specs.Rooms.{IsRoomy};
 ghost use Rattle.fairexec_run.specs.Transcripts.{Prints};
 ghost use Rattle.fairexec_run.specs.EventTexts.{note_lines};
-ghost use Rattle.fairexec_script.specs.TextLimits.{most_lines};
 
 use crate::boxed_script::BoxedScript;
 use crate::reply::{ends_of, event_of, quiet_of};
@@ -40,9 +39,8 @@ pub(crate) fn print_events<S: ByteSink>(
     page: &mut String,
     sink: &mut S,
 ) -> Result<(), Fault<Cause>>
-    requires roomy { IsRoomy model.old.cores model.old.cap model.old.burst 0 model.old }
+    requires roomy { IsRoomy model.old.cores model.old.cap model.old.burst (length events.items) model.old }
     requires there { AreEventsOf (Some (model.old.cores, model.old.cap)) events.items }
-    requires short { length events.items ≤ most_lines }
     ensures ok { OnOk result (WritesAll events.items model.old model.new (string_bytes page.old) (string_bytes page.new)
         (S.contents sink.old) (S.contents sink.new)) }
     ensures err { OnErr result (WritesFirst events.items model.old (string_bytes page.old) (S.contents sink.old) (S.contents sink.new)) }
@@ -66,7 +64,7 @@ fn print_event(
     event: ScriptEvent,
     page: &mut String,
 ) -> Result<(), Fault<Cause>>
-    requires roomy { IsRoomy model.old.cores model.old.cap model.old.burst (most_lines - 1) model.old }
+    requires roomy { IsRoomy model.old.cores model.old.cap model.old.burst 1 model.old }
     requires there { IsEventOf model.old.cores event }
     ensures ok { OnOk result ((text : List ℕ) × Prints event model.old model.new text
         × (string_bytes page.new ≡ string_bytes page.old ++ text)) }

@@ -1,4 +1,4 @@
-use Rattle.std.proofs.Common.{◌≡◌, ◌+◌, ◌++◌, ◌∷◌, [], length, length-append, arith, sym, subst, ◌∙◌, string_bytes}
+use Rattle.std.proofs.Common.{◌≡◌, ◌+◌, ◌-◌, ◌++◌, ◌∷◌, [], length, length-append, arith, sym, subst, ◌∙◌, string_bytes}
 use Rattle.std.proofs.lemmas.Iterator.Adapters.{YieldsList-from_vec}
 use Rattle.std.proofs.lemmas.Iterator.Consumers.{YieldsList-so_far, YieldsList-turn, YieldsList-end}
 use Rattle.std.proofs.lemmas.List.{map-id}
@@ -15,14 +15,16 @@ print_event-requires g c =
     let all = YieldsList-from_vec {s = c.into_iter-event-iterator.result} c.args.events.items c.into_iter-event-iterator.ensures.into_iter_gives.0 (c.into_iter-event-iterator.ensures.into_iter_gives.1 ∙ c.args.events.ok.0) in
     let turn = YieldsList-turn all c.loop-event.yielded c.loop-event.event-iterator c.loop-event.yielded_by _ c.next.new.self c.in-Some.event c.in-Some.is c.next.ensures.steps in
     let within = turn.0 in
-    let short = c.requires.short in
     record {
-      roomy = roomy_here _ _ _ _ c.loop-event.model c.loop-event.invariant.roomy (omega arith);
+      roomy = roomy_here _ _ _ _ (length c.args.events.items - length c.loop-event.yielded - 1) c.loop-event.model c.loop-event.invariant.roomy (omega arith);
       there = subst (λ cores. IsEventOf cores c.in-Some.event) (sym c.loop-event.invariant.roomy.cores_are) (subst (IsEventOf c.args.model.now.cores) (sym turn.1) (c.requires.there _ c.in-Some.event turn.0));
     }
 
 pub loop-event-preserved-in-Continue-branch-2 : goal.loop-event-preserved-in-Continue-branch-2
 loop-event-preserved-in-Continue-branch-2 g c =
+    let all = YieldsList-from_vec {s = c.into_iter-event-iterator.result} c.args.events.items c.into_iter-event-iterator.ensures.into_iter_gives.0 (c.into_iter-event-iterator.ensures.into_iter_gives.1 ∙ c.args.events.ok.0) in
+    let turn = YieldsList-turn all c.loop-event.yielded c.loop-event.event-iterator c.loop-event.yielded_by _ c.next.new.self c.in-Some.event c.in-Some.is c.next.ensures.steps in
+    let within = turn.0 in
     let one = c.in_ok-print_event.ensures.ok in
     let count : length (c.loop-event.yielded ++ c.in-Some.event ∷ []) ≡ length c.loop-event.yielded + 1 = length-append c.loop-event.yielded (c.in-Some.event ∷ []) in
     let more = writes_more c.loop-event.yielded _ _ _ _ _ _ c.loop-event.invariant.writes c.in-Some.event _ _ one.0 one.1 one.2 in
@@ -34,6 +36,9 @@ loop-event-preserved-in-Continue-branch-2 g c =
 
 pub loop-event-preserved : goal.loop-event-preserved
 loop-event-preserved g c =
+    let all = YieldsList-from_vec {s = c.into_iter-event-iterator.result} c.args.events.items c.into_iter-event-iterator.ensures.into_iter_gives.0 (c.into_iter-event-iterator.ensures.into_iter_gives.1 ∙ c.args.events.ok.0) in
+    let turn = YieldsList-turn all c.loop-event.yielded c.loop-event.event-iterator c.loop-event.yielded_by _ c.next.new.self c.in-Some.event c.in-Some.is c.next.ensures.steps in
+    let within = turn.0 in
     let one = c.in_ok-print_event.ensures.ok in
     let count : length (c.loop-event.yielded ++ c.in-Some.event ∷ []) ≡ length c.loop-event.yielded + 1 = length-append c.loop-event.yielded (c.in-Some.event ∷ []) in
     record {
