@@ -50,21 +50,16 @@ impl OpenTurn {
 }
 
 impl Bursts {
-    /// Once this queue was picked for a poll.
-    pub(crate) fn begun(self, queue: QueueNo) -> Bursts
-        ensures { result ≡ spec.begun queue self }
+    /// This queue was picked for a poll. In place, since where each poll ends its turn nothing is to be written.
+    pub(crate) fn begin(&mut self, queue: QueueNo)
+        ensures { self.new ≡ spec.begun queue self.old }
     {
-        if self.burst <= 1 {
-            return self;
-        }
-        let turn = OpenTurn {
-            queue,
-            polls: 1,
-            time: 0,
-        };
-        Bursts {
-            burst: self.burst,
-            open: Some(turn),
+        if self.burst > 1 {
+            self.open = Some(OpenTurn {
+                queue,
+                polls: 1,
+                time: 0,
+            });
         }
     }
 

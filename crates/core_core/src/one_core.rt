@@ -1,4 +1,14 @@
 //! One core.
+//!
+//! Each call is one step of the core, and makes the notes of that step. Which calls may follow one another is asked by their clauses.
+//!
+//! - `ready` has the key of each queue in which a job waits, except the queue of the job that is out and that of the open turn. So its
+//!   least key is the next pick.
+//! - A virtual runtime stands in the queue's tally, and while the queue is in `ready` also in its key. Only a queue outside of it is charged.
+//! - `floor` is the greatest virtual runtime at which a pick was made. A queue that gets work starts there, or above.
+//! - `out` is the job that a pick took out of its queue, from the pick until `settle`. At most one is out.
+//! - `bursts.open` is the turn that goes on: from the pick until `end_turn`, if a turn may have several polls. Its queue isn't in `ready`.
+//! - `inside` counts what is in the queues, and the job that is out. It never passes `room`, since senders have so many places.
 ghost use Rattle.std.specs.Prelude.{◌≡◌, ◌↔◌, ℕ, ◌+◌, ◌*◌, ◌<◌, ◌≤◌, IsTrue, IfOk, Some, None, slice_get};
 ghost use Rattle.arrayvec.specs.ArrayVec.{array_vec_len};
 ghost use Rattle.base_jobs.specs.Ready.{HasReadyJob};

@@ -1,20 +1,15 @@
 -- The buckets as a key comes in or goes out.
-use Rattle.std.proofs.Common.{◌≡◌, ℕ, zero, suc, ◌+◌, ◌-◌, ◌<◌, ◌≤◌, ◌^◌, Bool, true, false, List, [], ◌∷◌, ◌++◌, length, map, set, take, Option, Some, None, cond, refl, sym, ap, ◌∙◌, subst, ⊎_elim, add-one, arith}
-use Rattle.std.specs.Prelude.{is_some, IsSome, IfSome, IfNone, slice_index_or, replicate}
-use Rattle.std.proofs.Math.ListN.{get_or-map}
+use Rattle.std.proofs.Common.{◌≡◌, ℕ, zero, suc, ◌+◌, ◌<◌, ◌≤◌, Bool, true, false, List, [], ◌∷◌, length, set, Option, Some, None, cond, refl, sym, ap, ◌∙◌, subst, ⊎_elim, add-one, arith}
+use Rattle.std.specs.Prelude.{is_some, IsSome, slice_index_or}
 use Rattle.std.proofs.lemmas.Bool.{cases_eq, cases_lt, eq-eqb, ne_eqb}
-use Rattle.std.proofs.lemmas.List.{get_or_past, get_or_read, get_or-set_same, get_or-set_other, length-set, length-replicate, map-set, set-get_or}
+use Rattle.std.proofs.lemmas.List.{get_or_past, get_or_read, get_or-set_same, get_or-set_other, length-set}
 use Rattle.base_words.specs.declared.names.JobId.{JobId}
 use Rattle.core_index.specs.declared.row.Row.{Row}
 use Rattle.core_index.specs.declared.row.Bucket.{Bucket}
 use Rattle.core_index.specs.Places.{place_of}
-use Rattle.core_index.specs.Buckets.{Names, name_at, shown, no_row, shown_at, next_of, keys_from, keys_in, no_bucket, bucket_at, copies, due, IsFiled, IsIndexed, HoldsTaken, HoldsAll, Precedes}
+use Rattle.core_index.specs.Buckets.{filed_name, no_row, filed_at, next_of, keys_from, keys_in, no_bucket, bucket_at, copies, due, IsFiled, IsIndexed, HoldsFiled, Precedes}
 use Rattle.core_index.proofs.Copies.{copies-same, copies-other, few_keys}
 use Rattle.core_index.proofs.Chains.{length-keys_from, keys-same, keys-but, keys-out, Precedes-there}
-
--- a caller sees what the row of a key shows
-pub name_at-shown : (rows : List Row) (key : ℕ) → name_at (map shown rows) key ≡ shown_at rows key
-name_at-shown rows key = get_or-map shown rows key no_row
 
 pub due-here : (mask place : ℕ) (name : JobId) → place_of name mask ≡ place → due mask place (Some name) ≡ 1
 due-here mask place name here = ap (λ b. cond b 1 0) (eq-eqb (place_of name mask) place here)
@@ -31,46 +26,40 @@ due-some : (mask place : ℕ) (name : Option JobId) → 0 < due mask place name 
 due-some mask place None there = absurd (omega arith)
 due-some mask place (Some name) there = refl
 
--- the row of a key that a job has shows its name
-pub shown-taken : (row : Row) → IsSome (shown row) → shown row ≡ Some row.name
-shown-taken row taken = by_mark row.taken taken
+-- the row of a key that is filed has its name
+pub filed-is : (row : Row) → IsSome (filed_name row) → filed_name row ≡ Some row.name
+filed-is row filed = by_mark row.filed filed
   where
     by_mark : (mark : Bool) → IsSome (cond mark (Some row.name) None) → cond mark (Some row.name) None ≡ Some row.name
     by_mark true there = refl
     by_mark false there = let both : false ≡ true = there in absurd (cc)
 
--- a key that a job has is one of the rows
-pub taken-within : (rows : List Row) (key : ℕ) → IsSome (shown_at rows key) → key < length rows
-taken-within rows key taken =
+-- a key that is filed is one of the rows
+pub filed-within : (rows : List Row) (key : ℕ) → IsSome (filed_at rows key) → key < length rows
+filed-within rows key filed =
     ⊎_elim
     (λ below. below)
-    (λ past. let none : false ≡ true = sym (ap (λ (row : Row). is_some (shown row)) (get_or_past rows key no_row past)) ∙ taken in absurd (cc))
+    (λ past. let none : false ≡ true = sym (ap (λ (row : Row). is_some (filed_name row)) (get_or_past rows key no_row past)) ∙ filed in absurd (cc))
     (cases_lt key (length rows))
 
 -- a row that was read
 pub row_read : (rows : List Row) (key : ℕ) (row : Row) → key < length rows → row ≡ slice_index_or rows key row → slice_index_or rows key no_row ≡ row
 row_read rows key row within read = sym (get_or_read rows key row within read no_row)
 
--- such a row shows its name, if a job has its key
-pub shown-read : (rows : List Row) (key : ℕ) (row : Row) → key < length rows → row ≡ slice_index_or rows key row → IsSome (shown_at rows key) → shown_at rows key ≡ Some row.name
-shown-read rows key row within read taken =
+-- such a row has its name, if its key is filed
+pub filed-read : (rows : List Row) (key : ℕ) (row : Row) → key < length rows → row ≡ slice_index_or rows key row → IsSome (filed_at rows key) → filed_at rows key ≡ Some row.name
+filed-read rows key row within read filed =
     let here = row_read rows key row within read in
-    ap shown here ∙ shown-taken row (subst (λ (r : Row). IsSome (shown r)) here taken)
+    ap filed_name here ∙ filed-is row (subst (λ (r : Row). IsSome (filed_name r)) here filed)
 
--- only keys that jobs have stand in a bucket
-pub IsFiled-taken : (mask : ℕ) (rows : List Row) (bucket : Bucket) (place : ℕ) → IsFiled mask rows bucket place → HoldsTaken rows bucket
-IsFiled-taken mask rows bucket place filed key there = due-some mask place (shown_at rows key) (omega (arith, there, filed key))
-
--- each key of a name stands in its bucket
-pub IsFiled-all : (mask : ℕ) (rows : List Row) (bucket : Bucket) (name : JobId) (place : ℕ) → place ≡ place_of name mask → IsFiled mask rows bucket place → HoldsAll rows bucket name
-IsFiled-all mask rows bucket name place here filed key is =
-    let one : due mask place (shown_at rows key) ≡ 1 = ap (due mask place) is ∙ due-here mask place name (sym here) in
-    omega (arith, filed key, one)
+-- only keys that are filed stand in a bucket
+pub IsFiled-filed : (mask : ℕ) (rows : List Row) (bucket : Bucket) (place : ℕ) → IsFiled mask rows bucket place → HoldsFiled rows bucket
+IsFiled-filed mask rows bucket place filed key there = due-some mask place (filed_at rows key) (omega (arith, there, filed key))
 
 -- a bucket has no more keys than there are rows
 pub IsFiled-few : (mask : ℕ) (rows : List Row) (bucket : Bucket) (place : ℕ) → IsFiled mask rows bucket place → bucket.count ≤ length rows
 IsFiled-few mask rows bucket place filed =
-    let few = few_keys (length rows) (keys_in rows bucket) (λ key. omega (arith, filed key, due-le mask place (shown_at rows key))) (λ key there. taken-within rows key (IsFiled-taken mask rows bucket place filed key there)) in
+    let few = few_keys (length rows) (keys_in rows bucket) (λ key. omega (arith, filed key, due-le mask place (filed_at rows key))) (λ key there. filed-within rows key (IsFiled-filed mask rows bucket place filed key there)) in
     omega (arith, few, length-keys_from rows bucket.count bucket.head)
 
 -- what a row that is written has in common with the one that it stands for, all rows have
@@ -83,9 +72,9 @@ row_set f rows at now within same key =
 
 -- a key comes in: it is the head of the bucket of its name
 module _ (mask : ℕ) (rows : List Row) (buckets : List Bucket) (is : IsIndexed mask rows buckets) (name : JobId) (key place : ℕ) (bucket : Bucket) (at : bucket ≡ bucket_at buckets place) (here : place ≡ place_of name mask)
-    (inside : place < length buckets) (within : key < length rows) (vacant : shown_at rows key ≡ None) where
+    (inside : place < length buckets) (within : key < length rows) (vacant : filed_at rows key ≡ None) where
   added : Row
-  added = record { name = name; next = bucket.head; taken = true }
+  added = record { name = name; next = bucket.head; filed = true; taken = true }
 
   later : List Row
   later = set rows key added
@@ -109,20 +98,20 @@ module _ (mask : ℕ) (rows : List Row) (buckets : List Bucket) (is : IsIndexed 
       let next : next_of later key ≡ bucket.head = ap (λ (row : Row). row.next) (get_or-set_same rows key added no_row within) in
       ap (keys_from later key) (add-one bucket.count) ∙ ap (λ n. key ∷ keys_from later n bucket.count) next ∙ ap (λ (b : Bucket). key ∷ keys_from later b.head b.count) at ∙ ap (λ keys. key ∷ keys) (stays place)
 
-  shown_here : shown_at later key ≡ Some name
+  shown_here : filed_at later key ≡ Some name
   unfolding added later
-  shown_here = ap shown (get_or-set_same rows key added no_row within)
+  shown_here = ap filed_name (get_or-set_same rows key added no_row within)
 
-  shown_there : (other : ℕ) → (other ≡ key → ⊥) → shown_at later other ≡ shown_at rows other
+  shown_there : (other : ℕ) → (other ≡ key → ⊥) → filed_at later other ≡ filed_at rows other
   unfolding later
-  shown_there other apart = ap shown (get_or-set_other rows key other added no_row apart)
+  shown_there other apart = ap filed_name (get_or-set_other rows key other added no_row apart)
 
   filed_here : IsFiled mask later longer place
   filed_here other =
       ap (copies other) grows
       ∙ ⊎_elim
       (λ same.
-      let new : due mask place (shown_at later other) ≡ 1 = ap (λ k. due mask place (shown_at later k)) same ∙ ap (due mask place) shown_here ∙ due-here mask place name (sym here) in
+      let new : due mask place (filed_at later other) ≡ 1 = ap (λ k. due mask place (filed_at later k)) same ∙ ap (due mask place) shown_here ∙ due-here mask place name (sym here) in
       let none : copies other (keys_in rows (bucket_at buckets place)) ≡ 0 = ap (λ k. copies k (keys_in rows (bucket_at buckets place))) same ∙ absent place in
       omega (arith, copies-same other key (keys_in rows (bucket_at buckets place)) same, none, new))
       (λ apart. copies-other other key (keys_in rows (bucket_at buckets place)) apart ∙ is.filed place other ∙ ap (due mask place) (sym (shown_there other apart)))
@@ -133,13 +122,13 @@ module _ (mask : ℕ) (rows : List Row) (buckets : List Bucket) (is : IsIndexed 
       ap (copies other) (stays else_place)
       ∙ ⊎_elim
       (λ same.
-      let new : due mask else_place (shown_at later other) ≡ 0 = ap (λ k. due mask else_place (shown_at later k)) same ∙ ap (due mask else_place) shown_here ∙ due-elsewhere mask else_place name (λ falls. apart (sym falls ∙ sym here)) in
+      let new : due mask else_place (filed_at later other) ≡ 0 = ap (λ k. due mask else_place (filed_at later k)) same ∙ ap (due mask else_place) shown_here ∙ due-elsewhere mask else_place name (λ falls. apart (sym falls ∙ sym here)) in
       let none : copies other (keys_in rows (bucket_at buckets else_place)) ≡ 0 = ap (λ k. copies k (keys_in rows (bucket_at buckets else_place))) same ∙ absent else_place in
       omega (arith, none, new))
       (λ differs. is.filed else_place other ∙ ap (due mask else_place) (sym (shown_there other differs)))
       (cases_eq other key)
 
-  pub IsIndexed-insert : IsIndexed mask (set rows key (record { name = name; next = bucket.head; taken = true })) (set buckets place (record { head = key; count = bucket.count + 1 }))
+  pub IsIndexed-insert : IsIndexed mask (set rows key (record { name = name; next = bucket.head; filed = true; taken = true })) (set buckets place (record { head = key; count = bucket.count + 1 }))
   unfolding added later longer
   IsIndexed-insert = record {
     filed = λ other.
@@ -152,8 +141,8 @@ module _ (mask : ℕ) (rows : List Row) (buckets : List Bucket) (is : IsIndexed 
   }
 
 -- a key goes out of the bucket of its name
-pub IsIndexed-out : (mask : ℕ) (rows later : List Row) (buckets : List Bucket) → IsIndexed mask rows buckets → (name : JobId) (key place : ℕ) (shorter : Bucket) → place ≡ place_of name mask → place < length buckets → shown_at rows key ≡ Some name → shown_at later key ≡ None
-    → ((other : ℕ) → (other ≡ key → ⊥) → shown_at later other ≡ shown_at rows other) → ((other : ℕ) → copies other (keys_in later shorter) + copies other (key ∷ []) ≡ copies other (keys_in rows (bucket_at buckets place)))
+pub IsIndexed-out : (mask : ℕ) (rows later : List Row) (buckets : List Bucket) → IsIndexed mask rows buckets → (name : JobId) (key place : ℕ) (shorter : Bucket) → place ≡ place_of name mask → place < length buckets → filed_at rows key ≡ Some name → filed_at later key ≡ None
+    → ((other : ℕ) → (other ≡ key → ⊥) → filed_at later other ≡ filed_at rows other) → ((other : ℕ) → copies other (keys_in later shorter) + copies other (key ∷ []) ≡ copies other (keys_in rows (bucket_at buckets place)))
     → ((other : ℕ) → (other ≡ place → ⊥) → keys_in later (bucket_at buckets other) ≡ keys_in rows (bucket_at buckets other)) → length later ≡ length rows → IsIndexed mask later (set buckets place shorter)
 IsIndexed-out mask rows later buckets is name key place shorter here inside was now others out stays long = record {
   filed = λ other.
@@ -169,11 +158,11 @@ IsIndexed-out mask rows later buckets is name key place shorter here inside was 
     filed_here other =
         ⊎_elim
         (λ same.
-        let before : due mask place (shown_at rows other) ≡ 1 = ap (λ k. due mask place (shown_at rows k)) same ∙ ap (due mask place) was ∙ due-here mask place name (sym here) in
-        let behind : due mask place (shown_at later other) ≡ 0 = ap (λ k. due mask place (shown_at later k)) same ∙ ap (due mask place) now in
+        let before : due mask place (filed_at rows other) ≡ 1 = ap (λ k. due mask place (filed_at rows k)) same ∙ ap (due mask place) was ∙ due-here mask place name (sym here) in
+        let behind : due mask place (filed_at later other) ≡ 0 = ap (λ k. due mask place (filed_at later k)) same ∙ ap (due mask place) now in
         omega (arith, copies-same other key [] same, out other, is.filed place other, before, behind))
         (λ apart.
-        let stays_due : due mask place (shown_at later other) ≡ due mask place (shown_at rows other) = ap (due mask place) (others other apart) in
+        let stays_due : due mask place (filed_at later other) ≡ due mask place (filed_at rows other) = ap (due mask place) (others other apart) in
         omega (arith, copies-other other key [] apart, out other, is.filed place other, stays_due))
         (cases_eq other key)
 
@@ -182,8 +171,8 @@ IsIndexed-out mask rows later buckets is name key place shorter here inside was 
         ap (copies other) (stays else_place apart) ∙ is.filed else_place other
         ∙ ⊎_elim
         (λ same.
-        let before : due mask else_place (shown_at rows other) ≡ 0 = ap (λ k. due mask else_place (shown_at rows k)) same ∙ ap (due mask else_place) was ∙ due-elsewhere mask else_place name (λ falls. apart (sym falls ∙ sym here)) in
-        let behind : due mask else_place (shown_at later other) ≡ 0 = ap (λ k. due mask else_place (shown_at later k)) same ∙ ap (due mask else_place) now in
+        let before : due mask else_place (filed_at rows other) ≡ 0 = ap (λ k. due mask else_place (filed_at rows k)) same ∙ ap (due mask else_place) was ∙ due-elsewhere mask else_place name (λ falls. apart (sym falls ∙ sym here)) in
+        let behind : due mask else_place (filed_at later other) ≡ 0 = ap (λ k. due mask else_place (filed_at later k)) same ∙ ap (due mask else_place) now in
         before ∙ sym behind)
         (λ differs. ap (due mask else_place) (sym (others other differs)))
         (cases_eq other key)
@@ -198,8 +187,8 @@ due-one mask place other None there apart = refl
 due-one mask place other (Some name) there apart =
     due-elsewhere mask other name (λ falls. absurd (omega (arith, there, due-elsewhere mask place name (λ here. apart (sym falls ∙ here)))))
 
--- a key that a job has stands in the bucket of its name
-pub IsFiled-one : (mask : ℕ) (rows : List Row) (bucket : Bucket) (place key : ℕ) (name : JobId) → IsFiled mask rows bucket place → shown_at rows key ≡ Some name → place ≡ place_of name mask → copies key (keys_in rows bucket) ≡ 1
+-- a key that is filed stands in the bucket of its name
+pub IsFiled-one : (mask : ℕ) (rows : List Row) (bucket : Bucket) (place key : ℕ) (name : JobId) → IsFiled mask rows bucket place → filed_at rows key ≡ Some name → place ≡ place_of name mask → copies key (keys_in rows bucket) ≡ 1
 IsFiled-one mask rows bucket place key name filed is here = filed key ∙ ap (due mask place) is ∙ due-here mask place name (sym here)
 
 -- so it isn't empty
@@ -209,12 +198,12 @@ some_keys rows key head (suc count) one = omega arith
 
 -- the head of a bucket goes out
 pub IsIndexed-head : (mask : ℕ) (rows : List Row) (buckets : List Bucket) → IsIndexed mask rows buckets → (key place less : ℕ) (row : Row) (bucket : Bucket) → bucket ≡ bucket_at buckets place → place < length buckets → key < length rows → slice_index_or rows key no_row ≡ row
-    → shown_at rows key ≡ Some row.name → place ≡ place_of row.name mask → bucket.head ≡ key → bucket.count ≡ suc less → IsIndexed mask (set rows key (record row { taken = false })) (set buckets place (record { head = row.next; count = less }))
+    → filed_at rows key ≡ Some row.name → place ≡ place_of row.name mask → bucket.head ≡ key → bucket.count ≡ suc less → IsIndexed mask (set rows key (record row { filed = false })) (set buckets place (record { head = row.next; count = less }))
 IsIndexed-head mask rows buckets is key place less row bucket at inside within read was here first count =
-    IsIndexed-out mask rows later buckets is row.name key place shorter here inside was (ap shown (get_or-set_same rows key gone no_row within)) (λ other apart. ap shown (get_or-set_other rows key other gone no_row apart)) out (λ other _. stays (bucket_at buckets other)) (length-set rows key gone)
+    IsIndexed-out mask rows later buckets is row.name key place shorter here inside was (ap filed_name (get_or-set_same rows key gone no_row within)) (λ other apart. ap filed_name (get_or-set_other rows key other gone no_row apart)) out (λ other _. stays (bucket_at buckets other)) (length-set rows key gone)
   where
     gone : Row
-    gone = record row { taken = false }
+    gone = record row { filed = false }
 
     later : List Row
     later = set rows key gone
@@ -237,10 +226,10 @@ IsIndexed-head mask rows buckets is key place less row bucket at inside within r
 
 -- a key behind another one goes out
 pub IsIndexed-behind : (mask : ℕ) (rows : List Row) (buckets : List Bucket) → IsIndexed mask rows buckets → (key place less before : ℕ) (row prior gone : Row) (bucket : Bucket) → bucket ≡ bucket_at buckets place → place < length buckets → key < length rows → before < length rows
-    → slice_index_or rows key no_row ≡ row → slice_index_or rows before no_row ≡ prior → slice_index_or (set rows before (record prior { next = row.next })) key no_row ≡ gone → shown_at rows key ≡ Some row.name → place ≡ place_of row.name mask
-    → Precedes rows bucket.head bucket.count before key → bucket.count ≡ suc less → IsIndexed mask (set (set rows before (record prior { next = row.next })) key (record gone { taken = false })) (set buckets place (record { head = bucket.head; count = less }))
+    → slice_index_or rows key no_row ≡ row → slice_index_or rows before no_row ≡ prior → slice_index_or (set rows before (record prior { next = row.next })) key no_row ≡ gone → filed_at rows key ≡ Some row.name → place ≡ place_of row.name mask
+    → Precedes rows bucket.head bucket.count before key → bucket.count ≡ suc less → IsIndexed mask (set (set rows before (record prior { next = row.next })) key (record gone { filed = false })) (set buckets place (record { head = bucket.head; count = less }))
 IsIndexed-behind mask rows buckets is key place less before row prior gone bucket at inside within prior_within read prior_read gone_read was here comes count =
-    IsIndexed-out mask rows later buckets is row.name key place shorter here inside was (ap shown (get_or-set_same between key left no_row wide)) (λ other apart. ap shown (get_or-set_other between key other left no_row apart) ∙ shows other) out stays long
+    IsIndexed-out mask rows later buckets is row.name key place shorter here inside was (ap filed_name (get_or-set_same between key left no_row wide)) (λ other apart. ap filed_name (get_or-set_other between key other left no_row apart) ∙ shows other) out stays long
   where
     linked : Row
     linked = record prior { next = row.next }
@@ -249,7 +238,7 @@ IsIndexed-behind mask rows buckets is key place less before row prior gone bucke
     between = set rows before linked
 
     left : Row
-    left = record gone { taken = false }
+    left = record gone { filed = false }
 
     later : List Row
     later = set between key left
@@ -263,8 +252,8 @@ IsIndexed-behind mask rows buckets is key place less before row prior gone bucke
     long : length later ≡ length rows
     long = length-set between key left ∙ length-set rows before linked
 
-    shows : (other : ℕ) → shown_at between other ≡ shown_at rows other
-    shows = row_set shown rows before linked prior_within (ap shown (sym prior_read))
+    shows : (other : ℕ) → filed_at between other ≡ filed_at rows other
+    shows = row_set filed_name rows before linked prior_within (ap filed_name (sym prior_read))
 
     goes_on : (other : ℕ) → next_of later other ≡ next_of between other
     goes_on = row_set (λ r. r.next) between key left wide (ap (λ (r : Row). r.next) (sym gone_read))
@@ -278,60 +267,15 @@ IsIndexed-behind mask rows buckets is key place less before row prior gone bucke
     filed : IsFiled mask rows bucket place
     filed = subst (λ (b : Bucket). IsFiled mask rows b place) (sym at) (is.filed place)
 
-    in_place : 0 < due mask place (shown_at rows before)
+    in_place : 0 < due mask place (filed_at rows before)
     in_place = omega (arith, filed before, Precedes-there rows bucket.count bucket.head before key comes)
 
     out : (other : ℕ) → copies other (keys_in later shorter) + copies other (key ∷ []) ≡ copies other (keys_in rows (bucket_at buckets place))
     out other =
-        let once : copies before (keys_from rows bucket.head (suc less)) ≤ 1 = subst (λ n. copies before (keys_from rows bucket.head n) ≤ 1) count (omega (arith, filed before, due-le mask place (shown_at rows before))) in
+        let once : copies before (keys_from rows bucket.head (suc less)) ≤ 1 = subst (λ n. copies before (keys_from rows bucket.head n) ≤ 1) count (omega (arith, filed before, due-le mask place (filed_at rows before))) in
         let cut = keys-out rows later before key others over less bucket.head (subst (λ n. Precedes rows bucket.head n before key) count comes) once other in
         let all : copies other (keys_in rows (bucket_at buckets place)) ≡ copies other (keys_from rows bucket.head (suc less)) = ap (λ (b : Bucket). copies other (keys_in rows b)) (sym at) ∙ ap (λ n. copies other (keys_from rows bucket.head n)) count in
         cut ∙ sym all
 
     stays : (other : ℕ) → (other ≡ place → ⊥) → keys_in later (bucket_at buckets other) ≡ keys_in rows (bucket_at buckets other)
-    stays other apart = keys-but rows later before (bucket_at buckets other).count (bucket_at buckets other).head others (is.filed other before ∙ due-one mask place other (shown_at rows before) in_place apart)
-
--- what a caller sees after a key came in
-pub shown-set : (rows : List Row) (names : Names) (key : ℕ) (now : Row) → map shown rows ≡ names → map shown (set rows key now) ≡ set names key (shown now)
-shown-set rows names key now is = map-set shown rows key now ∙ ap (λ v. set v key (shown now)) is
-
--- or after another key was linked
-pub shown-link : (rows : List Row) (names : Names) (before next : ℕ) (prior : Row) → slice_index_or rows before no_row ≡ prior → map shown rows ≡ names → map shown (set rows before (record prior { next = next })) ≡ names
-shown-link rows names before next prior read is =
-    map-set shown rows before (record prior { next = next }) ∙ ap (set (map shown rows) before) (sym (name_at-shown rows before ∙ ap shown read)) ∙ set-get_or (map shown rows) before None ∙ is
-
-pub find-found : (names : Names) (rows : List Row) (name : JobId) (found : Option ℕ) → map shown rows ≡ names → IfSome found (λ key. shown_at rows key ≡ Some name) → IfSome found (λ key. name_at names key ≡ Some name)
-find-found names rows name None is there = there
-find-found names rows name (Some key) is there = ap (λ v. name_at v key) (sym is) ∙ name_at-shown rows key ∙ there
-
-pub find-none : (names : Names) (rows : List Row) (name : JobId) (found : Option ℕ) → map shown rows ≡ names → IfNone found ((key : ℕ) → shown_at rows key ≡ Some name → ⊥) → IfNone found ((key : ℕ) → name_at names key ≡ Some name → ⊥)
-find-none names rows name None is none = λ key there. none key (sym (name_at-shown rows key) ∙ ap (λ v. name_at v key) is ∙ there)
-find-none names rows name (Some _) is none = none
-
--- the index as it is opened
-replicated : {X : Type 0} (n i : ℕ) (x : X) → slice_index_or (replicate n x) i x ≡ x
-replicated zero i x = refl
-replicated (suc n) zero x = refl
-replicated (suc n) (suc i) x = replicated n i x
-
--- a vector without a value that was filled up
-pub resized : {X : Type 0} (n len : ℕ) (old new : List X) (x : X) → old ≡ [] → len ≡ 0 → new ≡ take n old ++ replicate (n - len) x → new ≡ replicate n x
-resized {X = X} n len old new x none empty is =
-    let all : n - len ≡ n = omega arith in
-    is ∙ ap (λ o. take n o ++ replicate (n - len) x) none ∙ ap (λ t. t ++ replicate (n - len) x) (take-nil n) ∙ ap (λ m. replicate m x) all
-  where
-    take-nil : (m : ℕ) → take {A = X} m [] ≡ []
-    take-nil zero = refl
-    take-nil (suc m) = refl
-
-pub shown-replicate : (n : ℕ) → map shown (replicate n no_row) ≡ replicate n None
-shown-replicate zero = refl
-shown-replicate (suc n) = ap (λ names. None ∷ names) (shown-replicate n)
-
-pub IsIndexed-open : (mask count capacity : ℕ) → mask < count → capacity < 2 ^ 31 → IsIndexed mask (replicate capacity no_row) (replicate count no_bucket)
-IsIndexed-open mask count capacity places few = record {
-  filed = λ place key.
-      ap (λ (b : Bucket). copies key (keys_in (replicate capacity no_row) b)) (replicated count place no_bucket) ∙ ap (λ (r : Row). due mask place (shown r)) (sym (replicated capacity key no_row));
-  places = omega (arith, places, length-replicate count no_bucket);
-  few = omega (arith, few, length-replicate capacity no_row);
-}
+    stays other apart = keys-but rows later before (bucket_at buckets other).count (bucket_at buckets other).head others (is.filed other before ∙ due-one mask place other (filed_at rows before) in_place apart)

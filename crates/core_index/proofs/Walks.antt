@@ -3,16 +3,16 @@ use Rattle.std.proofs.Common.{◌≡◌, ℕ, suc, ◌<◌, ◌≤◌, ◌∷◌
 use Rattle.std.specs.Prelude.{IsSome}
 use Rattle.core_index.specs.declared.row.Row.{Row}
 use Rattle.core_index.specs.declared.row.Bucket.{Bucket}
-use Rattle.core_index.specs.Buckets.{shown_at, next_of, keys_from, keys_in, copies, HoldsTaken, Precedes}
+use Rattle.core_index.specs.Buckets.{filed_at, next_of, keys_from, keys_in, copies, HoldsFiled, Precedes}
 use Rattle.core_index.proofs.Copies.{copies-same, copies-other, copies-more}
 
 -- the first of those that are left, and the further ones
 pub rest-step : (rows : List Row) (key left less : ℕ) → left ≡ suc less → keys_from rows key left ≡ key ∷ keys_from rows (next_of rows key) less
 rest-step rows key left less is = ap (keys_from rows key) is
 
--- the first one is a key that a job has
-pub rest-taken : (rows : List Row) (bucket : Bucket) (key left less : ℕ) → left ≡ suc less → ((other : ℕ) → copies other (keys_from rows key left) ≤ copies other (keys_in rows bucket)) → HoldsTaken rows bucket → IsSome (shown_at rows key)
-rest-taken rows bucket key left less is within held =
+-- the first one is a key that is filed
+pub rest-filed : (rows : List Row) (bucket : Bucket) (key left less : ℕ) → left ≡ suc less → ((other : ℕ) → copies other (keys_from rows key left) ≤ copies other (keys_in rows bucket)) → HoldsFiled rows bucket → IsSome (filed_at rows key)
+rest-filed rows bucket key left less is within held =
     let first : copies key (keys_from rows key left) ≡ copies key (key ∷ keys_from rows (next_of rows key) less) = ap (copies key) (rest-step rows key left less is) in
     held key (omega (arith, within key, first, copies-same key key (keys_from rows (next_of rows key) less) refl))
 

@@ -1,4 +1,4 @@
--- The buckets of the index: which keys stand in them, and that these are the keys that jobs have.
+-- The buckets of the index: which keys stand in them, and that these are the keys that are filed.
 use Rattle.std.specs.Prelude.{◌≡◌, ◌⊎◌, ℕ, zero, suc, ◌+◌, ◌<◌, ◌^◌, false, List, [], ◌∷◌, length, Option, Some, None, IsSome, slice_index_or, ◌==◌, if◌then◌else◌}
 use Rattle.base_words.specs.declared.names.JobId.{JobId}
 use Rattle.core_index.specs.declared.row.Row.{Row}
@@ -13,17 +13,25 @@ Names = List (Option JobId)
 abbrev pub name_at : Names → ℕ → Option JobId
 name_at names key = slice_index_or names key None
 
--- what a row says of its key
-abbrev pub shown : Row → Option JobId
-shown row = if row.taken then Some row.name else None
+-- the name under which a key is filed, if it is
+abbrev pub filed_name : Row → Option JobId
+filed_name row = if row.filed then Some row.name else None
 
--- a row of a key that no job has
+-- what a row says of its key: no job has one that isn't filed
+abbrev pub shown : Row → Option JobId
+shown row = if row.taken then filed_name row else None
+
+-- a row of a key that isn't filed
 abbrev pub no_row : Row
-no_row = record { name = record { from = 0; to = 0; number = 0 }; next = 0; taken = false }
+no_row = record { name = record { from = 0; to = 0; number = 0 }; next = 0; filed = false; taken = false }
 
 -- the name that the rows give a key
 abbrev pub shown_at : List Row → ℕ → Option JobId
 shown_at rows key = shown (slice_index_or rows key no_row)
+
+-- the name under which the rows have a key filed
+abbrev pub filed_at : List Row → ℕ → Option JobId
+filed_at rows key = filed_name (slice_index_or rows key no_row)
 
 -- the key that the rows give as the next of a key
 abbrev pub next_of : List Row → ℕ → ℕ
@@ -58,17 +66,17 @@ due mask place (Some name) = if place_of name mask == place then 1 else 0
 
 -- each key stands in the bucket at this place as often as is due
 abbrev pub IsFiled : ℕ → List Row → Bucket → ℕ → Type 0
-IsFiled mask rows bucket place = (key : ℕ) → copies key (keys_in rows bucket) ≡ due mask place (shown_at rows key)
+IsFiled mask rows bucket place = (key : ℕ) → copies key (keys_in rows bucket) ≡ due mask place (filed_at rows key)
 
--- each key that a job has stands in the bucket of its name, once, and nothing else stands in a bucket
+-- each key that is filed stands in the bucket of its name, once, and nothing else stands in a bucket
 pub record IsIndexed (mask : ℕ) (rows : List Row) (buckets : List Bucket) : Type 0 where
   pub filed : (place : ℕ) → IsFiled mask rows (bucket_at buckets place) place
   pub places : mask < length buckets
   pub few : length rows < 2 ^ 31
 
--- only keys that jobs have stand in the bucket
-abbrev pub HoldsTaken : List Row → Bucket → Type 0
-HoldsTaken rows bucket = (key : ℕ) → 0 < copies key (keys_in rows bucket) → IsSome (shown_at rows key)
+-- only keys that are filed stand in the bucket
+abbrev pub HoldsFiled : List Row → Bucket → Type 0
+HoldsFiled rows bucket = (key : ℕ) → 0 < copies key (keys_in rows bucket) → IsSome (filed_at rows key)
 
 -- each key of a job of this name stands in the bucket
 abbrev pub HoldsAll : List Row → Bucket → JobId → Type 0

@@ -2,8 +2,9 @@
 ghost use Rattle.std.specs.Prelude.{◌≡◌, ◌≢◌, ℕ, ◌<◌, ◌^◌, length, replicate, Some, None, IsSome, IfSome, IfNone, IfOk, slice_set};
 ghost use Rattle.core_index.specs.Buckets.{name_at};
 
-use crate::row::{Bucket, Row, place_of};
-use crate::walk::{before, look};
+use crate::filing::{file, unfile};
+use crate::row::{Bucket, Row, is_same, place_of};
+use crate::walk::look;
 use base_sealed::SealedVec;
 use base_words::JobId;
 use std::alloc::{AllocError, Allocator};
@@ -72,49 +73,31 @@ impl<A: Allocator> Index<A> {
         look(&self.rows, bucket, name)
     }
 
-    /// A job of this name gets a key that none has.
+    /// A job of this name gets a key that none has. If the last one that had it was of this name, the key is still in its bucket.
     #[inline(always)]
     pub fn insert(&mut self, name: &JobId, key: usize)
         requires within { key < length self.old }
         requires vacant { name_at self.old key ≡ None }
         ensures { self.new ≡ slice_set self.old key (Some name.now) }
     {
-        let place = place_of(name, self.mask);
-        let bucket = self.buckets[place];
-        self.rows[key] = Row {
-            name: *name,
-            next: bucket.head,
-            taken: true,
-        };
-        self.buckets[place] = Bucket {
-            head: key as u32,
-            count: bucket.count + 1,
-        };
+        let row = &self.rows[key];
+        let is_filed = row.filed;
+        if is_filed && is_same(name, &row.name) {
+            self.rows[key].taken = true;
+            return;
+        }
+        if is_filed {
+            unfile(&mut self.rows, &mut self.buckets, self.mask, key);
+        }
+        file(&mut self.rows, &mut self.buckets, self.mask, name, key);
     }
 
-    /// The job that has this key gives it up.
+    /// The job that has this key gives it up. The key stays in its bucket, since the same job often comes back to it.
     #[inline(always)]
     pub fn remove(&mut self, key: usize)
         requires { IsSome (name_at self.old key) }
         ensures { self.new ≡ slice_set self.old key None }
     {
-        let row = self.rows[key];
-        let place = place_of(&row.name, self.mask);
-        let bucket = self.buckets[place];
-        if bucket.head as usize == key {
-            self.rows[key].taken = false;
-            self.buckets[place] = Bucket {
-                head: row.next,
-                count: bucket.count - 1,
-            };
-            return;
-        }
-        let last = before(&self.rows, bucket, key);
-        self.rows[last].next = row.next;
         self.rows[key].taken = false;
-        self.buckets[place] = Bucket {
-            head: bucket.head,
-            count: bucket.count - 1,
-        };
     }
 }

@@ -8,11 +8,13 @@ use base_words::{ActorNo, CoreNo, JobId};
 /// What is known of a key.
 #[derive(Clone, Copy)]
 pub struct Row {
-    /// The name of the job under this key. Where none is, it says nothing.
+    /// The name of the job under this key, or of the last one that had it. Where the key isn't filed, it says nothing.
     pub name: JobId,
     /// The next key of its bucket. At the last one it says nothing.
     pub next: u32,
-    /// Whether a job has this key.
+    /// Whether the key stands in the bucket of this name.
+    pub filed: bool,
+    /// Whether a job has this key, which is filed then.
     pub taken: bool,
 }
 
@@ -25,6 +27,7 @@ impl Row {
             number: 0,
         },
         next: 0,
+        filed: false,
         taken: false,
     };
 }

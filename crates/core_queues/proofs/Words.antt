@@ -5,7 +5,7 @@ pub use Rattle.base_words.proofs.NameLemmas.{one_name}
 pub use Rattle.base_words.specs.Names.{among, same_name}
 pub use Rattle.base_words.specs.declared.names.JobId.{JobId}
 pub use Rattle.base_words.specs.declared.order.Mode.{Mode}
-pub use Rattle.core_index.proofs.Filed.{resized}
+pub use Rattle.core_index.proofs.Shown.{resized}
 pub use Rattle.core_index.specs.Buckets.{name_at, Names}
 pub use Rattle.core_queues.specs.Entries.{Appends, Inserts, MovesHead, Relinks, Renews, Requeues, Starts}
 pub use Rattle.core_queues.specs.Fronts.{IsFrontReady, ParksOrStays, RestsFront, TurnsLine}

@@ -1,4 +1,12 @@
 //! All task queues of a core.
+//!
+//! All jobs of a core stand in one slab. A queue is two lines through it: of jobs that wait, and of parked ones.
+//!
+//! - An entry of the slab knows the key of the next one in its line. A queue knows head, tail and count of either line.
+//! - `names` finds the key of a job by its name. It has a row for each key of the slab.
+//! - `seats` knows of each key where its job is parked, and the key parked before it. So a wake takes a job out of the middle of its line.
+//! - A job that leaves its queue to be polled leaves the slab. A turn in place (`turn_front`) leaves it where it is, and writes keys alone.
+//! - A queue has its slip, or the timeline of its core has it. Nothing here says when: the core does.
 ghost use Rattle.std.specs.Prelude.{◌≡◌, ◌+◌, ◌<◌, ◌≤◌, ◌↔◌, [], ◌∷◌, ◌++◌, true, false, drop, length, None, is_some, IsTrue, IfOk, OnErr, IfSome, IfNone, OnSome};
 ghost use Rattle.core_queues.specs.Slips.{queue_count, shares_of, mode_of, waiting_of, parked_of, held_count, has_slip, without_slip, with_slip, first_queue, IsWithinLimits, ChangesLine, ChangesShares, ChangesMode, AddsQueue};
 ghost use Rattle.base_words.specs.Closing as spec;

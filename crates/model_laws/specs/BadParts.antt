@@ -5,7 +5,7 @@ use Rattle.base_words.specs.declared.names.JobId.{JobId}
 use Rattle.base_words.specs.declared.names.Key.{Key}
 use Rattle.base_words.specs.Keys.{KeyBefore}
 use Rattle.core_index.specs.declared.row.Row.{Row}
-use Rattle.core_index.specs.Buckets.{HoldsAll, HoldsTaken, Precedes, no_bucket, no_row}
+use Rattle.core_index.specs.Buckets.{HoldsAll, HoldsFiled, Precedes, no_bucket, no_row}
 use Rattle.core_queues.specs.declared.line.Line.{Line}
 use Rattle.core_queues.specs.declared.seats.ParkedAt.{ParkedAt}
 use Rattle.core_queues.specs.Seats.{LeavesSeat, Vacates}
@@ -48,11 +48,11 @@ abbrev pub job : JobId
 job = record { from = 1; to = 0; number = 1 }
 
 abbrev pub row : Row
-row = record { name = job; next = 0; taken = true }
+row = record { name = job; next = 0; filed = true; taken = true }
 
--- a key stands in a bucket that no job has
-pub stale_key : HoldsTaken (no_row ∷ []) (record { head = 0; count = 1 }) → ⊥
-stale_key holds = let taken : false ≡ true = holds 0 (omega arith) in cc
+-- a key stands in a bucket and is not filed
+pub stale_key : HoldsFiled (no_row ∷ []) (record { head = 0; count = 1 }) → ⊥
+stale_key holds = let filed : false ≡ true = holds 0 (omega arith) in cc
 
 -- the key of a job stands in no bucket
 pub lost_key : HoldsAll (row ∷ []) no_bucket job → ⊥

@@ -1,4 +1,10 @@
 //! Turns of several polls: a further job of the open turn goes out, and the turn ends.
+//!
+//! A turn is open from the pick of its queue until `end_turn`. In between jobs of this queue alone go out, one after another.
+//!
+//! - Whether it goes on is judged anew at each call: polls are left, a job waits, and neither queue nor core hands back.
+//! - So a job that comes to the queue, or is woken, within the turn is polled in it.
+//! - The queue is charged once, at the end, for the time of all polls. Until then its slip is with it, and it isn't among the queues to pick.
 ghost use Rattle.std.specs.Prelude.{◌≡◌, ◌<◌, IsSome, IfSome, None, Ok, is_some, true, false, [], ◌∷◌};
 ghost use Rattle.base_words.specs.Bursts.{has_bursts};
 ghost use Rattle.core_queues.specs.Queues.{queue_count, waiting_of};

@@ -1,4 +1,10 @@
 //! What a delivery does, by its order.
+//!
+//! Each delivery counts, whatever comes of it: a job enters its queue, or goes back in its order, and a command is answered.
+//!
+//! - A job in a queue without work makes the queue active: its virtual runtime is placed at the floor, and its slip goes into the timeline,
+//!   unless the queue's turn is open.
+//! - Only a Create takes memory, and changes nothing if there is none.
 ghost use Rattle.std.specs.Prelude.{◌≡◌, ◌↔◌, ℕ, ◌+◌, ◌<◌, ◌≤◌, [], ◌∷◌, true, false, None, IsTrue};
 ghost use Rattle.core_core.specs.declared.delivery.Delivered.TheVariants as deliveries;
 ghost use Rattle.base_words.specs.declared.note.Note.TheVariants as notes;

@@ -113,8 +113,8 @@ impl<J: Job, A: Allocator + Clone> Core<J, A> {
         self.floor = self.floor.max(key.vr);
         self.turns += 1;
         self.inside -= done as usize;
-        let opened = self.bursts.begun(queue);
-        let bursts = opened.lasted(time);
+        self.bursts.begin(queue);
+        let bursts = self.bursts.lasted(time);
         self.bursts = bursts;
         (step, time)
     }

@@ -43,8 +43,7 @@ impl<J: Task, A: Allocator + Clone> Core<J, A> {
         self.tallies[place(queue)].selected += 1;
         self.floor = self.floor.max(vr);
         self.turns += 1;
-        let bursts = self.bursts.begun(queue);
-        self.bursts = bursts;
+        self.bursts.begin(queue);
         let as_it_was = Snapshot::of(&job);
         let named = name;
         self.out = Some(Out {

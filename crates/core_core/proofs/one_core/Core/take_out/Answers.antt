@@ -45,7 +45,7 @@ takes_of : (g : Over) (c : Joined-self g) → TakesOut
     c.in-Some-pop_front.name c.in-Some.key.queue c.in-Some-pop_front.started c.in-Some-pop_front.job
     (core_view c.self.inside.core c.self.inside.cores (queues_alone c.pop_front.new.self)
     (slice_set c.self.inside.tallies.items c.place.result (record c.index_mut.result.now { selected = c.index_mut.result.now.selected + 1 })) c.max-self-inside.result (c.self.inside.turns + 1)
-    (Some (record { name = c.in-Some-pop_front.name; queue = c.in-Some.key.queue; woken = c.in-Some-pop_front.woken; job = c.of-as_it_was.result.value })) c.self.inside.senders c.self.inside.mode c.begun-bursts.result)
+    (Some (record { name = c.in-Some-pop_front.name; queue = c.in-Some.key.queue; woken = c.in-Some-pop_front.woken; job = c.of-as_it_was.result.value })) c.self.inside.senders c.self.inside.mode c.begin.new.self)
 takes_of g c =
     let inside = c.self.inside in
     let core = c.self.invariant in
@@ -71,14 +71,14 @@ takes_of g c =
       first = head;
       line = subst (λ line. ChangesLine (queues_alone inside.queues) (queues_alone c.pop_front.new.self) key.queue line) (ap (drop 1) head) c.in-Some-pop_front.ensures.rest.queues;
       rest = λ i. core_view inside.core inside.cores (queues_alone c.pop_front.new.self) (tallies i) (floor i) (inside.turns + 1)
-          (Some (record { name = c.in-Some-pop_front.name; queue = key.queue; woken = c.in-Some-pop_front.woken; job = c.of-as_it_was.ensures i })) inside.senders inside.mode (c.begun-bursts.ensures i);
+          (Some (record { name = c.in-Some-pop_front.name; queue = key.queue; woken = c.in-Some-pop_front.woken; job = c.of-as_it_was.ensures i })) inside.senders inside.mode (c.begin.ensures i);
     }
 
 -- what holds inside from then on
 core_of : (g : Over) (c : Joined-self g) → IsCore g.J.Task.meaning
     (core_view c.self.inside.core c.self.inside.cores (queues_alone c.pop_front.new.self)
     (slice_set c.self.inside.tallies.items c.place.result (record c.index_mut.result.now { selected = c.index_mut.result.now.selected + 1 })) c.max-self-inside.result (c.self.inside.turns + 1)
-    (Some (record { name = c.in-Some-pop_front.name; queue = c.in-Some.key.queue; woken = c.in-Some-pop_front.woken; job = c.of-as_it_was.result.value })) c.self.inside.senders c.self.inside.mode c.begun-bursts.result)
+    (Some (record { name = c.in-Some-pop_front.name; queue = c.in-Some.key.queue; woken = c.in-Some-pop_front.woken; job = c.of-as_it_was.result.value })) c.self.inside.senders c.self.inside.mode c.begin.new.self)
     (slice_set c.self.inside.queues.slips c.in-Some.key.queue true) c.take_least.new.self.keys c.self.inside.inside c.self.inside.room c.self.inside.tallies.cap
 core_of g c =
     let inside = c.self.inside in

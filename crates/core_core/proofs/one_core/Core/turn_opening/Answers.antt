@@ -107,7 +107,7 @@ invariant_of-self g c =
           ∙ ap (λ found. settled_tally found time (shares_of key.queue queues) ended (picked_tally (old_of g at) key.queue)) (sym (begun_open key.queue inside.bursts (has g at)));
     } in
     let slip = c.in-Some.ensures.slip in
-    let bursts : c.lasted-bursts.result ≡ bursts_after (old_of g at) key.queue time = c.lasted-bursts.ensures ∙ ap (λ (one : Bursts). record one { «open» = lasted time one.open }) c.begun-opened.ensures in
+    let bursts : c.lasted-bursts.result ≡ bursts_after (old_of g at) key.queue time = c.lasted-bursts.ensures ∙ ap (λ (one : Bursts). record one { «open» = lasted time one.open }) c.begin.ensures in
     IsCore-opened_as g.J.Task.meaning (old_of g at) inside.queues.slips inside.ready.keys inside.inside inside.room inside.tallies.cap key c.turn_front-step.ensures.turns.0 step c.turn_front-step.result.1 time tally queues turn (has g at) _ _ _ _
     (λ i. core_view inside.core inside.cores (queues_alone (c.put_slip.ensures i)) (slice_set inside.tallies.items (c.place-2.ensures i) tally) (c.max-self-inside.ensures i) (inside.turns + 1) (job_out inside.out) inside.senders inside.mode (bursts i))
     (ap (λ lines. lines.slips) c.put_slip.ensures ∙ (λ i. slice_set (c.turn_front-step.ensures.slips i) (slip i) true)) refl (ap (λ count. inside.inside - count) c.ended-done.ensures)
@@ -142,7 +142,7 @@ returns g c =
     let bounded = IsBounded-opened g.J.Task.meaning (old_of g at) inside.queues.slips inside.ready.keys inside.inside inside.room inside.tallies.cap key turns.0 step c.turn_front-step.result.1 time tally queues turn (has g at) in
     let first = TurnsFirst-turned g.J.Task.meaning (old_of g at) inside.queues.slips inside.ready.keys inside.inside inside.room inside.tallies.cap key turns.0 step c.turn_front-step.result.1 time tally queues turn
     c.turn_front-step.result.2 c.unwrap_or-time.ensures in
-    rw (← c.self.view_is, c.put_slip.ensures, c.place-2.ensures, c.max-self-inside.ensures, c.lasted-bursts.ensures, c.begun-opened.ensures) (record {
+    rw (← c.self.view_is, c.put_slip.ensures, c.place-2.ensures, c.max-self-inside.ensures, c.lasted-bursts.ensures, c.begin.ensures) (record {
       turns = (turns.0, turns.1, (c.turn_front-step.result.2, c.turn_front-step.ensures.tells, first));
       bounded = bounded;
     })

@@ -1,7 +1,8 @@
 use Rattle.std.proofs.Common.{◌<◌, length, sym, subst, arith}
 use Rattle.core_index.specs.declared.row.Bucket.{Bucket}
 use Rattle.core_index.specs.Buckets.{IsFiled}
-use Rattle.core_index.proofs.Filed.{bucket_read, IsFiled-taken, IsFiled-all, find-found, find-none}
+use Rattle.core_index.proofs.Filed.{bucket_read, IsFiled-filed}
+use Rattle.core_index.proofs.Shown.{IsFiled-all, find-found, find-none}
 use Rattle.core_index.proofs.index.Index.find.Goals as goal
 
 pub look-requires-clause-held : goal.look-requires-clause-held
@@ -11,7 +12,7 @@ look-requires-clause-held g c =
     let bucket = c.index-bucket.result.now in
     let inside : place < length i.buckets.items = omega (arith, c.place_of.ensures.within, c.self.invariant.places) in
     let read = bucket_read i.buckets.items place bucket inside c.index-bucket.ensures in
-    IsFiled-taken i.mask i.rows.items bucket place (subst (λ (b : Bucket). IsFiled i.mask i.rows.items b place) (sym read) (c.self.invariant.filed place))
+    IsFiled-filed i.mask i.rows.items bucket place (subst (λ (b : Bucket). IsFiled i.mask i.rows.items b place) (sym read) (c.self.invariant.filed place))
 
 pub look-requires-clause-complete : goal.look-requires-clause-complete
 look-requires-clause-complete g c =

@@ -4,7 +4,7 @@ use Rattle.std.proofs.lemmas.Nat.{pow_pos}
 use Rattle.core_index.specs.declared.row.Bucket.{Bucket}
 use Rattle.core_index.specs.declared.row.Row.{Row}
 use Rattle.core_index.specs.Buckets.{no_row, no_bucket, shown, IsIndexed}
-use Rattle.core_index.proofs.Filed.{IsIndexed-open, shown-replicate, resized}
+use Rattle.core_index.proofs.Shown.{IsIndexed-open, shown-replicate, resized}
 use Rattle.core_index.proofs.index.Index.open.Goals as goal
 
 pub invariant_of-result : goal.invariant_of-result
