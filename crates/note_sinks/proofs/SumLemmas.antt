@@ -9,6 +9,7 @@ use Rattle.base_words.specs.Terms.{Terms}
 use Rattle.note_facts.specs.Limits.{greatest_count}
 use Rattle.note_sinks.specs.Ledgers.{KnowsAsBefore, KnowsLedger, LedgerView, ReadsNotes}
 use Rattle.note_sinks.specs.Sums.{IsSums}
+use Rattle.note_stats.specs.Walks.{FiguresView, KnowsFigures}
 
 -- what each note has, each of the first notes has
 each_before : (P : Note ℕ → Journal ℕ → Type 0) (notes before : Journal ℕ) → EachNote P (notes ++ before) → EachNote P before
@@ -41,8 +42,8 @@ taken burst count total old at_first ready at_second read at_third new notes ite
         let is_read = reads terms burst (reverse items) lawful short (subst (λ (it : LedgerView). KnowsLedger burst it (reverse items)) (sym second) is_ready) in
         forgot burst (reverse notes ++ reverse items) (subst (λ (it : LedgerView). KnowsLedger burst it (reverse notes ++ reverse items)) (sym third) is_read)
 
--- what is known of the notes that a sink took
-pub known_of_sums : (burst : ℕ) (old now : LedgerView) (count : ℕ) (has : Journal ℕ) → IsSums burst old count has → now ≡ old → (terms : Terms) → EachNote (MayStand terms) has →
-    length has < 2 ^ 64 → KnowsLedger burst now has
-known_of_sums burst old now count has sums same terms lawful short =
-    subst (λ (it : LedgerView). KnowsLedger burst it has) (sym same) (sums.known terms lawful (omega (arith, short)))
+-- what the figures of a ledger know of the notes that a sink took
+pub known_of_sums : (burst : ℕ) (old now : LedgerView) (figures : FiguresView) (count : ℕ) (has : Journal ℕ) → IsSums burst old count has → now ≡ old → figures ≡ now.figures → (terms : Terms) → EachNote (MayStand terms) has →
+    length has < 2 ^ 64 → KnowsFigures burst figures has
+known_of_sums burst old now figures count has sums same its terms lawful short =
+    subst (λ (it : FiguresView). KnowsFigures burst it has) (sym (its ∙ ap (λ (it : LedgerView). it.figures) same)) (sums.known terms lawful (omega (arith, short))).figures

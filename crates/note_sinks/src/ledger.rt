@@ -1,20 +1,16 @@
 //! What is kept of a lawful journal whose notes were read.
 
-ghost use Rattle.std.specs.Prelude.{◌≡◌, ◌↔◌, ◌<◌, [], ◌∷◌, ℕ, length, All, IsTrue, OnErr, OnOk};
-ghost use Rattle.base_words.specs.Closing.{IsDrained};
+ghost use Rattle.std.specs.Prelude.{◌≡◌, ◌<◌, [], ◌∷◌, ℕ, length, All, OnErr, OnOk};
 ghost use Rattle.base_words.specs.Journal.{Journal, EachNote, or_else};
-ghost use Rattle.base_words.specs.Lag.{greatest_charge};
 ghost use Rattle.base_words.specs.Lawful.{MayStand};
 ghost use Rattle.base_words.specs.Terms.{Terms};
 ghost use Rattle.note_facts.specs.Limits.{greatest_count};
-ghost use Rattle.base_words.specs.Stats as stats;
-ghost use Rattle.base_words.specs.Sums.{charges};
 ghost use Rattle.note_sinks.specs.Ledgers as spec;
 ghost use Rattle.note_sinks.specs.Ledgers.{queue_picked, KnowsAsBefore, KnowsLedger, ReadsNotes};
 ghost use Rattle.note_sinks.specs.Naps.{HasPlace, IsNoPark, KeepsPlaces};
 
 use crate::naps::Naps;
-use base_words::{CoreStats, Note, QueueNo, QueueStats};
+use base_words::{Note, QueueNo};
 use note_facts::Spot;
 use note_facts::endings::Endings;
 use note_stats::Figures;
@@ -143,32 +139,10 @@ impl Ledger {
         self.naps.forget_all(notes, &self.endings);
     }
 
-    /// The statistics of a queue, if there is such a queue.
-    pub fn queue_stats(&self, queue: QueueNo) -> Option<QueueStats>
-        ensures { (burst : ℕ) (journal : Journal ℕ) → KnowsLedger burst self.now journal → result ≡ stats.queue_stats burst queue journal }
+    /// All that is counted.
+    pub fn figures(&self) -> &Figures
+        ensures { result.now ≡ self.now.figures }
     {
-        self.figures.queue_stats(queue)
-    }
-
-    /// The statistics of the core, in a house of so many cores.
-    pub fn core_stats(&self, cores: u8) -> CoreStats
-        ensures core { (burst : ℕ) (journal : Journal ℕ) → KnowsLedger burst self.now journal → result ≡ stats.core_stats result.drained journal }
-        ensures drained { (burst : ℕ) (journal : Journal ℕ) → KnowsLedger burst self.now journal → IsTrue result.drained ↔ IsDrained cores journal }
-    {
-        self.figures.core_stats(cores)
-    }
-
-    /// The sum of the charges of a queue.
-    pub fn charged(&self, queue: QueueNo) -> u128
-        ensures { (burst : ℕ) (journal : Journal ℕ) → KnowsLedger burst self.now journal → result ≡ charges burst queue journal }
-    {
-        self.figures.charged(queue)
-    }
-
-    /// The greatest charge of one turn of a queue, 0 if it was charged nothing.
-    pub fn greatest_turn(&self, queue: QueueNo) -> u64
-        ensures { (burst : ℕ) (journal : Journal ℕ) → KnowsLedger burst self.now journal → result ≡ greatest_charge burst queue journal }
-    {
-        self.figures.greatest_turn(queue)
+        &self.figures
     }
 }

@@ -145,16 +145,9 @@ impl<W: text_bytes::ByteSink> Lines<W> {
     {
         let mut lines = self;
         match lines.flush() {
-            Ok(()) => Ok(lines.into_writer()),
+            Ok(()) => Ok(lines.outlet.into_writer()),
             Err(_) => Err(lines),
         }
-    }
-
-    /// The writer. What is pending is lost.
-    fn into_writer(self) -> W
-        ensures { result ≡ self.writer }
-    {
-        self.outlet.into_writer()
     }
 
     /// Writes all that is pending, if the page is full. What isn't written stays pending.

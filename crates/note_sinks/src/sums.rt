@@ -94,7 +94,7 @@ impl Sums {
     pub fn queue_stats(&self, queue: QueueNo) -> Option<QueueStats>
         ensures { (terms : Terms) → EachNote (MayStand terms) self.now.has → length self.now.has < 2 ^ 64 → result ≡ spec.queue_stats self.now.burst queue self.now.has }
     {
-        self.ledger.queue_stats(queue)
+        self.ledger.figures().queue_stats(queue)
     }
 
     /// The statistics of the core, in a house of so many cores, where the notes that were taken are lawful and fewer than 2^64.
@@ -102,21 +102,21 @@ impl Sums {
         ensures core { (terms : Terms) → EachNote (MayStand terms) self.now.has → length self.now.has < 2 ^ 64 → result ≡ spec.core_stats result.drained self.now.has }
         ensures drained { (terms : Terms) → EachNote (MayStand terms) self.now.has → length self.now.has < 2 ^ 64 → IsTrue result.drained ↔ IsDrained cores self.now.has }
     {
-        self.ledger.core_stats(cores)
+        self.ledger.figures().core_stats(cores)
     }
 
     /// The sum of the charges of a queue, where the notes that were taken are lawful and fewer than 2^64.
     pub fn charged(&self, queue: QueueNo) -> u128
         ensures { (terms : Terms) → EachNote (MayStand terms) self.now.has → length self.now.has < 2 ^ 64 → result ≡ charges self.now.burst queue self.now.has }
     {
-        self.ledger.charged(queue)
+        self.ledger.figures().charged(queue)
     }
 
     /// The greatest charge of one turn of a queue, 0 if it was charged nothing, where the notes that were taken are lawful and fewer than 2^64.
     pub fn greatest_turn(&self, queue: QueueNo) -> u64
         ensures { (terms : Terms) → EachNote (MayStand terms) self.now.has → length self.now.has < 2 ^ 64 → result ≡ greatest_charge self.now.burst queue self.now.has }
     {
-        self.ledger.greatest_turn(queue)
+        self.ledger.figures().greatest_turn(queue)
     }
 }
 

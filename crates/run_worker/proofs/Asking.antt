@@ -86,14 +86,13 @@ module _ {G : Type 0} (asked : G → ℕ → JobId → G → Type 0) (core : ℕ
   asks_none old new before after none same = record { polls = []; told = none; asks = same }
 
   -- what was asked while notes were written, behind steps that note no poll and before others
-  pub asks_between : {T : Type 0} (was : ℕ) (old heard turned new : Journal T) (before here after there : G) → was ≡ core → here ≡ before → there ≡ after → NotesNoPoll old heard → NotesNoPoll turned new →
-      AsksSince asked was heard turned here there → AsksSince asked core old new before after
-  asks_between was old heard turned new before here after there same here_is there_is none still since = record {
+  pub asks_between : {T : Type 0} (was : ℕ) (old heard turned new : Journal T) (before after : G) → was ≡ core → NotesNoPoll old heard → NotesNoPoll turned new → AsksSince asked was heard turned before after → AsksSince asked core old new before after
+  asks_between was old heard turned new before after same none still since = record {
     polls = since.polls;
     told = still ∙ (since.told ∙ ap (λ polls. since.polls ++ polls) none);
-    asks = subst (λ core. AsksFor asked core since.polls before after) same (subst (λ gate. AsksFor asked was since.polls gate after) here_is (subst (λ gate. AsksFor asked was since.polls here gate) there_is since.asks));
+    asks = subst (λ core. AsksFor asked core since.polls before after) same since.asks;
   }
 
   -- the same behind other polls, by the same core
   pub asks_then : {T : Type 0} (was : ℕ) (old between new : Journal T) (before middle after : G) → was ≡ core → AsksSince asked core old between before middle → AsksSince asked was between new middle after → AsksSince asked core old new before after
-  asks_then was old between new before middle after same one two = asks_along old between new before middle after one (asks_between was between between new new middle middle after after same refl refl refl refl two)
+  asks_then was old between new before middle after same one two = asks_along old between new before middle after one (asks_between was between between new new middle after same refl refl two)

@@ -54,7 +54,7 @@ module _ (meaning : Meaning ℕ ℕ) (reads : ℕ → ℕ → ℕ → Type 0) (a
   ends_unpublished old ended = is_behind ended.shows
     where
       notes : one_note ≡ ended.last.linked.recorded.journal.notes
-      notes = hands_notes has never ended.last.linked (linked_of one_note one_note 1000) ended.last.sink one_note ended.hands
+      notes = hands_notes (taker never silent) ended.last.linked (linked_of one_note one_note 1000) ended.last.sink one_note ended.hands
 
       is_behind : Shows ended.last.linked.recorded.journal.notes ended.last.shown (board_of [] 1) → ⊥
       is_behind (inl did) = let none : [] ≡ one_note = ap (λ (shown : ShownView ℕ). shown.notes) did ∙ sym notes in cc

@@ -1,9 +1,17 @@
 -- How many notes the steps of a worker write, one after another.
-use Rattle.run_worker.proofs.Names.{add-mul, ap, arith, Bool, false, inl, inr, IsSameSeat, IsShort, JobId, least_free, length, LinkedView, LooksAtRoom, Meaning, most_of_turn, mul_left_comm, RecordedView, refl, RoundsFew, RoundView}
-use Rattle.run_worker.proofs.Names.{seat_along, ServedView, StepsServed, subst, sym, TakesTurn, TimesNext, true, TurnsAlone, TurnsFew, WritesFew, ℕ, ◌*◌, ◌+◌, ◌∙◌, ◌≡◌, ◌≤◌}
-use Rattle.std.specs.Prelude.{◌||◌}
+use Rattle.run_worker.proofs.Names.{add-mul, ap, arith, Bool, false, IsSameSeat, IsShort, least_free, length, LinkedView, LooksAtRoom, most_of_turn, mul_left_comm, RecordedView, refl, ServedView, subst, sym, true, WritesFew}
+use Rattle.run_worker.proofs.Names.{ℕ, ◌*◌, ◌+◌, ◌∙◌, ◌≡◌, ◌≤◌}
 use Rattle.run_worker.proofs.Spare.{least_along, ends_once, places_all}
-use Rattle.run_worker.proofs.Telling.{same_between, steps_more}
+
+-- a worker that came to its end before came to it between
+pub same_between : (old middle new : Bool) → (old ≡ true → middle ≡ true) → (middle ≡ true → new ≡ true) → new ≡ old → middle ≡ old
+same_between true middle new one two is = one refl
+same_between false false new one two is = refl
+same_between false true new one two is = sym (two refl) ∙ is
+
+pub not_before : (old new : Bool) → (old ≡ true → new ≡ true) → new ≡ false → old ≡ false
+not_before false new one is = refl
+not_before true new one is = sym (one refl) ∙ is
 
 module _ {J T : Type 0} where
   -- a turn writes as many notes as before
@@ -24,7 +32,7 @@ module _ {J T : Type 0} where
   }
 
   -- a worker that isn't short isn't at its end behind a look at the room
-  still_going : (old middle : ServedView J T) → LooksAtRoom old middle → old.ending ≡ false → (IsShort old.linked.recorded → ⊥) → (ending : Bool) → middle.ending ≡ ending → middle.ending ≡ false
+  pub still_going : (old middle : ServedView J T) → LooksAtRoom old middle → old.ending ≡ false → (IsShort old.linked.recorded → ⊥) → (ending : Bool) → middle.ending ≡ ending → middle.ending ≡ false
   still_going old middle looks going long false is = is
   still_going old middle looks going long true is = absurd (long (looks.short going is))
 
@@ -38,24 +46,20 @@ module _ {J T : Type 0} where
     goes = λ going free. ap (λ view. view.ending) seen ∙ still_going old middle looks going (λ short. omega (arith, short, free)) middle.ending refl;
   }
 
-  -- the room is looked at, and nothing else is done
-  pub looked_none : (count : ℕ) (old middle : ServedView J T) → LooksAtRoom old middle → WritesFew count old middle
-  looked_none count old middle looks = looked_few count old middle middle middle.linked refl looks (omega arith)
-
   -- two steps
-  pub few_along : (one two count : ℕ) (some : Bool) (also : Bool) (old middle new : ServedView J T) → StepsServed old some middle → StepsServed middle also new → WritesFew one old middle → WritesFew two middle new →
-      one + two ≤ count → WritesFew count old new
-  few_along one two count some also old middle new first next few more low = record {
+  pub few_along : (one two count : ℕ) (old middle new : ServedView J T) → (old.ending ≡ true → middle.ending ≡ true) → (middle.ending ≡ true → new.ending ≡ true) → IsSameSeat old.linked.recorded middle.linked.recorded →
+      WritesFew one old middle → WritesFew two middle new → one + two ≤ count → WritesFew count old new
+  few_along one two count old middle new first next seat few more low = record {
     wrote = λ same.
-        let between : middle.ending ≡ old.ending = same_between old.ending middle.ending new.ending first.ended next.ended same in
+        let between : middle.ending ≡ old.ending = same_between old.ending middle.ending new.ending first next same in
         let wrote = few.wrote between in
         let later = more.wrote (same ∙ sym between) in
         omega (arith, wrote, later, low);
     goes = λ going free.
         let on : middle.ending ≡ false = few.goes going (omega (arith, free, low)) in
         let wrote = few.wrote (on ∙ sym going) in
-        let least = least_along old.linked.recorded middle.linked.recorded first.stays.seat in
-        more.goes on (omega (arith, free, low, wrote, least, first.stays.seat.room));
+        let least = least_along old.linked.recorded middle.linked.recorded seat in
+        more.goes on (omega (arith, free, low, wrote, least, seat.room));
   }
 
 -- a round writes no more notes than a short journal lacks
@@ -66,33 +70,3 @@ round_few cores cap burst =
 -- and so does a turn alone
 pub turn_few : (cores cap burst : ℕ) → most_of_turn cores cap burst ≤ least_free cores cap burst
 turn_few cores cap burst = let round = round_few cores cap burst in omega (arith, round)
-
-module _ {J T : Type 0} where
-  -- a look at everything: gates and deliveries, a turn, and outcomes
-  pub look_few : {one two three : Bool} (old heard turned new : ServedView J T) → StepsServed old one heard → StepsServed heard two turned → StepsServed turned three new →
-      WritesFew (old.linked.recorded.core.cores + 1 + (old.linked.recorded.core.cores + 1) * (2 * old.linked.recorded.cap)) old heard → TurnsFew heard turned →
-      WritesFew (turned.linked.recorded.core.cores * turned.linked.recorded.cap) turned new → RoundsFew old new
-  look_few {one = one} {two = two} {three = three} old heard turned new first second third took made got =
-      let seat = first.stays.seat in
-      let whole = seat_along old.linked.recorded heard.linked.recorded turned.linked.recorded seat second.stays.seat in
-      let most = most_along old.linked.recorded heard.linked.recorded seat in
-      let same : turned.linked.recorded.core.cores * turned.linked.recorded.cap ≡ old.linked.recorded.core.cores * old.linked.recorded.cap =
-      ap (λ cores. cores * turned.linked.recorded.cap) whole.cores ∙ ap (λ cap. old.linked.recorded.core.cores * cap) whole.cap in
-      let both = few_along _ _ (old.linked.recorded.core.cores + 1 + (old.linked.recorded.core.cores + 1) * (2 * old.linked.recorded.cap) + most_of_turn old.linked.recorded.core.cores old.linked.recorded.cap old.linked.recorded.core.bursts.burst)
-      one two old heard turned first second took made (omega (arith, most)) in
-      few_along _ _ _ (one || two) three old turned new (steps_more one two old heard turned first second) third both got
-      (omega (arith, round_few old.linked.recorded.core.cores old.linked.recorded.cap old.linked.recorded.core.bursts.burst, same))
-
-module _ {J T M G : Type 0} (meaning : Meaning J T) (tells : M → ℕ → M → Type 0) (asked : G → ℕ → JobId → G → Type 0) where
-  -- a turn for which there was no work writes nothing, and looks at the room once
-  pub turned_none : (meter later : M) (gate after : G) (old new : ServedView J T) → TakesTurn meaning tells asked meter later gate after old false new → StepsServed old false new → WritesFew 0 old new
-  turned_none meter later gate after old new takes steps = record {
-    wrote = λ same. let none : length new.linked.recorded.journal.notes ≡ length old.linked.recorded.journal.notes = ap length (steps.tells same) in omega (arith, none);
-    goes = λ going free. takes.ended ∙ still_going old takes.before takes.looks going (λ short. omega (arith, short, free)) takes.before.ending refl;
-  }
-
-module _ {J T C G : Type 0} (meaning : Meaning J T) (reads : C → ℕ → C → Type 0) (asked : G → ℕ → JobId → G → Type 0) where
-  -- no turn without a look, or one for which there was no work
-  pub alone_none : (old new : RoundView J T C G) → TurnsAlone meaning reads asked old false new → WritesFew 0 old.served new.served
-  alone_none old new (inl none) = subst (λ (view : RoundView J T C G). WritesFew 0 old.served view.served) (sym none.2) (few_none 0 old.served)
-  alone_none old new (inr turned) = turned_none meaning (TimesNext reads) asked old.watch new.watch old.gate new.gate old.served new.served turned.1 turned.2

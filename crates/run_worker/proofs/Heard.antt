@@ -1,7 +1,7 @@
 -- One sender after another is heard, and the outcomes of one core after another are collected.
 use Rattle.run_worker.proofs.Names.{ap, arith, Bool, cases_eq, CollectsFirst, CollectsNext, CollectsOf, DeliversFrom, false, Gives, HearsAll, HearsFirst, HearsOne, HearsSome, in_at, inl, inr, Inward, IsAllGot, IsAllTaken, IsHeard}
 use Rattle.run_worker.proofs.Names.{KeepsTaken, length, LinkedView, LooksAtRoom, None, Option, out_at, Outcome, refl, ServedView, Some, StepsServed, subst, sym, true, ℕ, ⊎_elim, ◌+◌, ◌<◌, ◌∙◌, ◌≡◌, ◌≢◌, ◌≤◌}
-use Rattle.run_worker.proofs.Telling.{same_between, not_before}
+use Rattle.run_worker.proofs.Fewer.{not_before, same_between}
 
 module _ {J T : Type 0} where
   gives_taken : (before : Inward J T) (number : ℕ) (outcome : Option (Outcome J T)) (after : Inward J T) → Gives before number outcome after → after.taken ≡ before.taken
@@ -68,7 +68,7 @@ module _ {J T : Type 0} where
   }
 
   -- the next sender is heard
-  pub next_heard : (count : ℕ) (old middle new : ServedView J T) {one two : Bool} → StepsServed old one middle → StepsServed middle two new → HearsFirst count old middle → HearsSome count middle new → HearsFirst (count + 1) old new
+  pub next_heard : (count : ℕ) (old middle new : ServedView J T) {few more : ℕ} {one two : Bool} → StepsServed few old one middle → StepsServed more middle two new → HearsFirst count old middle → HearsSome count middle new → HearsFirst (count + 1) old new
   next_heard count old middle new first next heard some = record {
     each = λ same sender low.
         ⊎_elim
@@ -98,7 +98,7 @@ module _ {J T : Type 0} where
       after same = same ∙ sym (between same)
 
   -- gates that are shut before it change nothing of what is heard
-  pub heard_behind : (count : ℕ) (old middle new : ServedView J T) {one two : Bool} → StepsServed old one middle → StepsServed middle two new → (middle.ending ≡ old.ending → KeepsTaken old.linked middle.linked) →
+  pub heard_behind : (count : ℕ) (old middle new : ServedView J T) {few more : ℕ} {one two : Bool} → StepsServed few old one middle → StepsServed more middle two new → (middle.ending ≡ old.ending → KeepsTaken old.linked middle.linked) →
       ((sender : ℕ) → sender < count → new.ending ≡ middle.ending → IsHeard sender middle.linked new.linked) → HearsAll count old new
   heard_behind count old middle new first next keeps each same sender low =
       ⊎_elim
@@ -126,7 +126,7 @@ module _ {J T : Type 0} where
   pub ended_collects : (core : ℕ) (old new : ServedView J T) → new.ending ≡ true → CollectsNext core old new
   ended_collects core old new ended = record { all = λ not. cc; others = λ not. cc }
 
-  pub next_collected : (count : ℕ) (middle new : ServedView J T) {two : Bool} → StepsServed middle two new → CollectsFirst count middle → CollectsNext count middle new → CollectsFirst (count + 1) new
+  pub next_collected : (count : ℕ) (middle new : ServedView J T) {more : ℕ} {two : Bool} → StepsServed more middle two new → CollectsFirst count middle → CollectsNext count middle new → CollectsFirst (count + 1) new
   next_collected count middle new step first next not core low =
       ⊎_elim
       (λ (is : core ≡ count). subst (λ one. IsAllGot one new.linked) (sym is) (next.all not))

@@ -29,11 +29,11 @@ pub mod Serving
 pub mod Telling
 pub mod Fewer
 pub mod Heard
-mod Looked
 mod Supplied
+pub mod Looked
+mod Lives
 pub mod GivenBack
 mod Resting
-mod ShownAgain
 pub mod Opened
 pub mod Creating
 pub mod Ending

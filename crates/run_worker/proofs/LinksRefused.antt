@@ -48,15 +48,15 @@ sees_less : StaysLinked (hearing 0) deaf → ⊥
 sees_less stays = let fewer : 2 ≤ 0 = stays.sees.ins 0 in omega (arith, fewer)
 
 -- a step tells that it did something, and wrote nothing
-tells_work : StepsServed (record { linked = noted one_note; ending = false }) true (record { linked = noted one_note; ending = false }) → ⊥
+tells_work : StepsServed 9 (record { linked = noted one_note; ending = false }) true (record { linked = noted one_note; ending = false }) → ⊥
 tells_work steps = let longer = steps.tells refl in omega (arith, longer)
 
 -- a step tells that it did nothing, and wrote a note
-tells_nothing : StepsServed (record { linked = noted []; ending = false }) false (record { linked = noted one_note; ending = false }) → ⊥
+tells_nothing : StepsServed 9 (record { linked = noted []; ending = false }) false (record { linked = noted one_note; ending = false }) → ⊥
 tells_nothing steps = let same = ap (λ (notes : Journal ℕ). length notes) (steps.tells refl) in omega (arith, same)
 
 -- a worker comes to its end while its journal has much room
-ends_too_early : StepsServed (record { linked = linked_of [] [] 1000; ending = false }) false (record { linked = linked_of [] [] 1000; ending = true }) → ⊥
+ends_too_early : StepsServed 9 (record { linked = linked_of [] [] 1000; ending = false }) false (record { linked = linked_of [] [] 1000; ending = true }) → ⊥
 ends_too_early steps = let short = steps.short refl refl in omega (arith, short)
 
 -- of a sender two orders are delivered at once

@@ -1,15 +1,13 @@
--- Which watch and which gate serve a turn, and what a look at the room leaves.
-use Rattle.run_worker.proofs.Names.{arith, Bool, core_mode_told, count_told, Grows, HasShutGates, IsSome, JobId, Journal, latest_told, LinkedView, Meaning, None, Note, Option, or_else, refl, ServedView}
-use Rattle.run_worker.proofs.Names.{ShutsClosed, Some, StaysLinked, subst, sym, TakesTurn, TimesNext, WatchView, ℕ, [], ◌++◌, ◌∷◌, ◌≡◌}
-
-module _ {J T C G : Type 0} (meaning : Meaning J T) (reads : C → ℕ → C → Type 0) (asked : G → ℕ → JobId → G → Type 0) where
-  -- the same watch and the same gates
-  pub turns_same : (watch own later : WatchView C) (before here after there : G) (old new : ServedView J T) (some : Bool) → own ≡ watch → here ≡ before → there ≡ after →
-      TakesTurn meaning (TimesNext reads) asked own later here there old some new → TakesTurn meaning (TimesNext reads) asked watch later before after old some new
-  turns_same watch own later before here after there old new some watch_is here_is there_is turns =
-      subst (λ watch. TakesTurn meaning (TimesNext reads) asked watch later before after old some new) watch_is
-      (subst (λ gate. TakesTurn meaning (TimesNext reads) asked own later gate after old some new) here_is
-      (subst (λ gate. TakesTurn meaning (TimesNext reads) asked own later here gate old some new) there_is turns))
+-- What a look, a turn alone and a round come to: what they keep, how many notes they write, and for which polls the gate is asked.
+use Rattle.run_worker.proofs.Names.{ap, arith, AsksSince, Bool, core_mode, core_mode_told, count_told, false, Grows, HasShutGates, inl, inr, IsSome, JobId, Journal, latest_told, length, LinkedView, LooksAtAll, LooksOrRests, MakesRound, Meaning}
+use Rattle.run_worker.proofs.Names.{None, Note, Option, or_else, polls_of, refl, round_most, RoundView, seat_along, ShutsClosed, Some, StaysLinked, StepsServed, subst, sym, taken_most, TimesNext, true}
+use Rattle.run_worker.proofs.Names.{turn_most, turn_view, TurnsAlone, ℕ, [], ◌*◌, ◌++◌, ◌+◌, ◌∙◌, ◌∷◌, ◌≡◌}
+use Rattle.std.specs.Prelude.{◌||◌}
+use Rattle.run_worker.proofs.Asking.{asks_between, asks_none, asks_then}
+use Rattle.run_worker.proofs.Fewer.{most_along, round_few, still_going, turn_few}
+use Rattle.run_worker.proofs.Spare.{least_along}
+use Rattle.run_worker.proofs.Telling.{steps_more, steps_none, steps_wider}
+use Rattle.run_worker.proofs.TurnAsks.{turn_asks}
 
 some_else : {A : Type 0} (first second : Option A) → IsSome second → IsSome (or_else first second)
 some_else None second is = is
@@ -24,9 +22,102 @@ module _ {T A : Type 0} (says : Note T → Option A) where
   still_told : (old new : Journal T) → Grows old new → IsSome (latest_told says old) → IsSome (latest_told says new)
   still_told old new grows is = subst (λ notes. IsSome (latest_told says notes)) (sym grows.1) (told_behind grows.0 old is)
 
+-- a core that is closed stays closed
+pub still_closed : {T : Type 0} (old new : Journal T) → Grows old new → IsSome (core_mode old) → IsSome (core_mode new)
+still_closed old new = still_told core_mode_told old new
+
 module _ {J T : Type 0} where
   -- the gates of a core that was closed are shut, if they were shut between
   pub shut_behind : (old middle new : LinkedView J T) → StaysLinked old middle → StaysLinked middle new → HasShutGates middle → ShutsClosed old new
   shut_behind old middle new one two has closed sender known =
       still_told (count_told sender) middle.recorded.journal.notes new.recorded.journal.notes two.grows
-      (has (still_told core_mode_told old.recorded.journal.notes middle.recorded.journal.notes one.grows closed) sender (omega (arith, known, one.seat.cores)))
+      (has (still_closed old.recorded.journal.notes middle.recorded.journal.notes one.grows closed) sender (omega (arith, known, one.seat.cores)))
+
+-- three answers, the second one first
+order_of_three : (one two three : Bool) → (one || two) || three ≡ two || (one || three)
+order_of_three true true three = refl
+order_of_three true false three = refl
+order_of_three false true three = refl
+order_of_three false false three = refl
+
+module _ {J T C G : Type 0} (meaning : Meaning J T) (reads : C → ℕ → C → Type 0) (asked : G → ℕ → JobId → G → Type 0) where
+  abbrev notes_in : RoundView J T C G → Journal T
+  notes_in view = view.served.linked.recorded.journal.notes
+
+  abbrev core_in : RoundView J T C G → ℕ
+  core_in view = view.served.linked.recorded.core.core
+
+  -- a round asks the gate for each poll that it notes
+  abbrev Asks : RoundView J T C G → RoundView J T C G → Type 0
+  Asks old new = AsksSince asked (core_in old) (notes_in old) (notes_in new) old.gate new.gate
+
+  pub look_asks : (old new : RoundView J T C G) (some : Bool) → LooksAtAll meaning reads asked old some new → Asks old new
+  look_asks old new some looks =
+      asks_between asked (core_in old) looks.turn.before.linked.recorded.core.core (notes_in old) looks.turn.before.linked.recorded.journal.notes looks.turned.linked.recorded.journal.notes (notes_in new) old.gate new.gate
+      (looks.turn.stays.seat.number ∙ looks.steps.stays.seat.number) (looks.turn.none ∙ looks.none_before) looks.none_behind
+      (turn_asks meaning (TimesNext reads) asked (turn_view looks.turn.before.linked old.watch old.gate) (turn_view looks.turned.linked looks.timed new.gate) looks.turn.made looks.turn.makes)
+
+  alone_asks : (old new : RoundView J T C G) (some : Bool) → TurnsAlone meaning reads asked old some new → Asks old new
+  alone_asks old new some (inl none) = asks_none asked (core_in old) (notes_in old) (notes_in new) old.gate new.gate (ap (λ view. polls_of (notes_in view)) none.2) (ap (λ view. view.gate) none.2)
+  alone_asks old new some (inr (passes, turn, steps)) =
+      asks_between asked (core_in old) turn.before.linked.recorded.core.core (notes_in old) turn.before.linked.recorded.journal.notes (notes_in new) (notes_in new) old.gate new.gate turn.stays.seat.number turn.none refl
+      (turn_asks meaning (TimesNext reads) asked (turn_view turn.before.linked old.watch old.gate) (turn_view new.served.linked new.watch new.gate) turn.made turn.makes)
+
+  rest_asks : (was_idle : Bool) (old new : RoundView J T C G) (some : Bool) → LooksOrRests meaning reads asked was_idle old some new → Asks old new
+  rest_asks was_idle old new some (inl looks) = look_asks old new some looks
+  rest_asks was_idle old new some (inr none) = asks_none asked (core_in old) (notes_in old) (notes_in new) old.gate new.gate (ap (λ view. polls_of (notes_in view)) none.3) (ap (λ view. view.gate) none.3)
+
+  -- what it keeps
+  pub look_steps : (old new : RoundView J T C G) (some : Bool) → LooksAtAll meaning reads asked old some new → StepsServed (round_most old.served) old.served some new.served
+  look_steps old new some looks =
+      let seat = looks.steps.stays.seat in
+      let whole = seat_along old.served.linked.recorded looks.heard.linked.recorded looks.turned.linked.recorded seat looks.turn_steps.stays.seat in
+      let got : looks.turned.linked.recorded.core.cores * looks.turned.linked.recorded.cap ≡ old.served.linked.recorded.core.cores * old.served.linked.recorded.cap =
+      ap (λ cores. cores * looks.turned.linked.recorded.cap) whole.cores ∙ ap (λ cap. old.served.linked.recorded.core.cores * cap) whole.cap in
+      subst (λ some. StepsServed (round_most old.served) old.served some new.served) (order_of_three looks.came looks.worked looks.back ∙ sym looks.tells)
+      (steps_more (taken_most old.served + turn_most old.served) _ (round_most old.served) (looks.came || looks.worked) looks.back old.served looks.turned new.served
+      (omega (arith, round_few old.served.linked.recorded.core.cores old.served.linked.recorded.cap old.served.linked.recorded.core.bursts.burst, got))
+      (steps_more (taken_most old.served) _ _ looks.came looks.worked old.served looks.heard looks.turned (omega (arith, most_along old.served.linked.recorded looks.heard.linked.recorded seat)) looks.steps looks.turn_steps) looks.gathers)
+
+  alone_steps : (old new : RoundView J T C G) (some : Bool) → TurnsAlone meaning reads asked old some new → StepsServed (turn_most old.served) old.served some new.served
+  alone_steps old new some (inl none) =
+      subst (λ some. StepsServed (turn_most old.served) old.served some new.served) (sym none.1)
+      (subst (λ (view : RoundView J T C G). StepsServed (turn_most old.served) old.served false view.served) (sym none.2) (steps_none (turn_most old.served) old.served))
+  alone_steps old new some (inr (passes, turn, steps)) = steps
+
+  -- no turn without a look, or one for which there was no work, which looks at the room once and writes nothing
+  alone_none : (old new : RoundView J T C G) → TurnsAlone meaning reads asked old false new → StepsServed 0 old.served false new.served
+  alone_none old new (inl none) = subst (λ (view : RoundView J T C G). StepsServed 0 old.served false view.served) (sym none.2) (steps_none 0 old.served)
+  alone_none old new (inr (passes, turn, steps)) = record {
+    stays = steps.stays;
+    ended = steps.ended;
+    short = steps.short;
+    tells = steps.tells;
+    few = record {
+      wrote = λ same. let none : length (notes_in new) ≡ length (notes_in old) = ap length (steps.tells same) in omega (arith, none);
+      goes = λ going free. turn.ended ∙ still_going old.served turn.before turn.looks going (λ short. omega (arith, short, free)) turn.before.ending refl;
+    };
+  }
+
+  rest_steps : (was_idle : Bool) (old new : RoundView J T C G) (some : Bool) → LooksOrRests meaning reads asked was_idle old some new → StepsServed (round_most old.served) old.served some new.served
+  rest_steps was_idle old new some (inl looks) = look_steps old new some looks
+  rest_steps was_idle old new some (inr none) =
+      subst (λ some. StepsServed (round_most old.served) old.served some new.served) (sym none.2)
+      (subst (λ (view : RoundView J T C G). StepsServed (round_most old.served) old.served false view.served) (sym none.3) (steps_none (round_most old.served) old.served))
+
+  module _ (was_idle : Bool) (old new : RoundView J T C G) (some : Bool) where
+    pub round_asks : MakesRound meaning reads asked was_idle old some new → Asks old new
+    round_asks (inl turned) = alone_asks old new true turned.1
+    round_asks (inr (middle, alone, rest)) =
+        asks_then asked (core_in old) (core_in middle) (notes_in old) (notes_in middle) (notes_in new) old.gate middle.gate new.gate (alone_none old middle alone).stays.seat.number (alone_asks old middle false alone)
+        (rest_asks was_idle middle new some rest)
+
+    pub round_steps : MakesRound meaning reads asked was_idle old some new → StepsServed (round_most old.served) old.served some new.served
+    round_steps (inl turned) =
+        subst (λ some. StepsServed (round_most old.served) old.served some new.served) (sym turned.0)
+        (steps_wider (turn_most old.served) (round_most old.served) true old.served new.served
+        (turn_few old.served.linked.recorded.core.cores old.served.linked.recorded.cap old.served.linked.recorded.core.bursts.burst) (alone_steps old new true turned.1))
+    round_steps (inr (middle, alone, rest)) =
+        let first = alone_none old middle alone in
+        steps_more 0 (round_most middle.served) (round_most old.served) false some old.served middle.served new.served (omega (arith, least_along old.served.linked.recorded middle.served.linked.recorded first.stays.seat)) first
+        (rest_steps was_idle middle new some rest)

@@ -1,6 +1,6 @@
 -- Looks of a small worker that are refused: gates that stay open, orders that are left, turns that are made up, too many notes.
-use Rattle.run_worker.proofs.Names.{ap, arith, BellsView, HasShutGates, inl, inr, IsHeard, JobId, Journal, kept_behind, leaves_turns, LooksAgain, LooksAtAll, Meaning, None, Option, refl, replicate, round_view, RoundsFew, RoundView}
-use Rattle.run_worker.proofs.Names.{ServedView, ShutsClosed, Some, subst, turns_after, watch_view, WatchView, ℕ, [], ◌||◌, ◌∷◌, ◌≡◌}
+use Rattle.run_worker.proofs.Names.{ap, arith, BellsView, HasShutGates, inl, inr, IsHeard, JobId, Journal, kept_behind, leaves_turns, LooksAgain, LooksAtAll, Meaning, None, Option, refl, replicate, round_most, round_view, RoundView}
+use Rattle.run_worker.proofs.Names.{ServedView, ShutsClosed, Some, subst, turns_after, watch_view, WatchView, WritesFew, ℕ, [], ◌||◌, ◌∷◌, ◌≡◌}
 use Rattle.std.proofs.Common.{Bool, true, false}
 use Rattle.base_words.specs.declared.note.Note.TheVariants.{CoreClosed, Created, Shut}
 use Rattle.base_words.specs.declared.order.Mode.TheVariants.{Return}
@@ -23,7 +23,7 @@ hears_nobody (inl all) = omega (arith, all)
 hears_nobody (inr some) = omega (arith, some)
 
 -- a round of a core with one sender and one place in each link writes 33 notes
-writes_too_much : RoundsFew (record { linked = noted []; ending = false }) (record { linked = noted (replicate 33 (Created 1 900)); ending = false }) → ⊥
+writes_too_much : WritesFew (round_most (record { linked = noted []; ending = false })) (record { linked = noted []; ending = false }) (record { linked = noted (replicate 33 (Created 1 900)); ending = false }) → ⊥
 writes_too_much few = let wrote = few.wrote refl in omega (arith, wrote)
 
 -- sixteen turns are left behind a look that leaves turns, and none behind another

@@ -74,8 +74,8 @@ pub use Rattle.run_watch.specs.Closed.{closed_by_itself}
 pub use Rattle.run_watch.specs.declared.publisher.Publishing.{Publishing}
 pub use Rattle.run_worker.specs.Again.{LooksAgain}
 pub use Rattle.run_worker.specs.Asks.{AsksFor, AsksSince, name_polled, NotesNoPoll, polls_of, with_poll}
-pub use Rattle.run_worker.specs.Ended.{ActsUnlessRefused, EndedView, HasEnded, IsServed, ServedView}
-pub use Rattle.run_worker.specs.Few.{most_of_turn, RoundsFew, TurnsFew, WritesFew}
+pub use Rattle.run_worker.specs.Ended.{ActsUnlessRefused, EndedView, HasEnded, IsServed, KnowsSeat, ServedView}
+pub use Rattle.run_worker.specs.Few.{got_most, most_of_turn, round_most, taken_most, turn_most, WritesFew}
 pub use Rattle.run_worker.specs.Gates.{IsShutWithin, KeepsTaken, LeavesReturning, LeavesShut, ShutsFirst, WritesReturn, WritesShut}
 pub use Rattle.run_worker.specs.Looks.{leaves_turns, LooksAtAll, LooksOrRests, MakesRound, PassesLinks, round_view, RoundView, turns_after, TurnsAlone}
 pub use Rattle.run_worker.specs.Passing.{HandsOn, HandsOnWhere, HasPlaces, IsDue, IsDueAtRest, IsSupplied, PassesTo}
@@ -83,7 +83,7 @@ pub use Rattle.run_worker.specs.Queues.{behind_entries, behind_entry, creations}
 pub use Rattle.run_worker.specs.Readings.{BeginsNext, kept_behind, TimesNext, watch_view, WatchView}
 pub use Rattle.run_worker.specs.Rooms.{ActsAsItMay, ActsByCommand, HasSpare, IsEnding, IsPolling, IsProvided, IsReady, IsShort, last_through, least_free, MayAct}
 pub use Rattle.run_worker.specs.Rounds.{AreRung, CollectsFirst, CollectsNext, HasShutGates, HearsAll, HearsFirst, HearsOne, HearsSome, is_turn, IsAllGot, IsAllTaken, IsHeard, LooksAtRoom, ShutsClosed, StepsServed, TellsNotes}
-pub use Rattle.run_worker.specs.Serves.{CountsIdle, GoesOn, Rests, round_of, Serves, ServesOn, ServesOnce, ServesToItsEnd, ShowsAgain, ShowsEnd, ShowsNow}
+pub use Rattle.run_worker.specs.Serves.{CountsIdle, GoesOn, KeepsTries, Rests, round_of, Serves, ServesAlong, ServesOn, ServesOnce, ServesToItsEnd, ShowsAgain, ShowsEnd, ShowsNow}
 pub use Rattle.run_worker.specs.Shown.{CantShow, IsShown, IsShownWhole, most_places, shown_of, ShownView, Shows, TellsAlone}
 pub use Rattle.run_worker.specs.Together.{all_ends, desk_among, HaveEnded}
 pub use Rattle.run_worker.specs.Turns.{TakesTurn}

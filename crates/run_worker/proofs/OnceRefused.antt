@@ -2,8 +2,8 @@
 use Rattle.run_worker.proofs.Names.{ap, arith, CountsIdle, GoesOn, Grows, inl, inr, JobId, Journal, length, LooksAtAll, LooksOrRests, MakesRound, Meaning, refl, Rests, round_of, RoundView, ServedView, ServesOnce, ShownView, Shows, ShowsNow}
 use Rattle.run_worker.proofs.Names.{StepsServed, sym, true≢false, TurnsAlone, ℕ, [], ◌++◌, ◌<◌, ◌||◌, ◌∙◌, ◌≡◌, ◌≤◌}
 use Rattle.std.proofs.Common.{nat_lt, Bool, true, false, length-append}
-use Rattle.run_worker.proofs.ServesRefused.{has, never, silent, taker}
-use Rattle.run_worker.proofs.ShownAgain.{where_shown}
+use Rattle.run_worker.proofs.ServesRefused.{never, silent, taker}
+use Rattle.run_worker.proofs.Lives.{where_shown}
 use Rattle.run_worker.proofs.SmallWorkers.{SmallWorker, board_of, linked_of, one_note, small_worker}
 use Rattle.run_worker.proofs.Supplied.{where_notes}
 
@@ -21,12 +21,12 @@ is_open true is ended open_now = absurd (true≢false (sym (ended refl) ∙ open
 is_open false is ended open_now = refl
 
 -- a step that tells of work wrote a note
-wrote : (old new : ServedView ℕ ℕ) → StepsServed old true new → new.ending ≡ false → count_of old < count_of new
+wrote : {most : ℕ} (old new : ServedView ℕ ℕ) → StepsServed most old true new → new.ending ≡ false → count_of old < count_of new
 wrote old new steps open_now = steps.tells (open_now ∙ sym (is_open old.ending new.ending steps.ended open_now))
 
 -- so of three steps, of which one tells of work
-one_wrote : (worked came back : Bool) (old heard turned new : ServedView ℕ ℕ) → true ≡ (worked || (came || back)) →
-    StepsServed old came heard → StepsServed heard worked turned → StepsServed turned back new → new.ending ≡ false → count_of old < count_of new
+one_wrote : {one two three : ℕ} (worked came back : Bool) (old heard turned new : ServedView ℕ ℕ) → true ≡ (worked || (came || back)) →
+    StepsServed one old came heard → StepsServed two heard worked turned → StepsServed three turned back new → new.ending ≡ false → count_of old < count_of new
 one_wrote true came back old heard turned new told first second third open_now =
     let turned_open = is_open turned.ending new.ending third.ended open_now in
     omega (arith, grown _ _ first.stays.grows, wrote heard turned second turned_open, grown _ _ third.stays.grows)
@@ -68,7 +68,7 @@ module _ (meaning : Meaning ℕ ℕ) (reads : ℕ → ℕ → ℕ → Type 0) (a
   goes_on_idle goes = counted goes.some goes.makes goes.counts
     where
       same : length goes.ready.linked.recorded.journal.notes ≡ 1
-      same = ap (λ (notes : Journal ℕ). length notes) (where_notes has never _ unpublished goes.ready goes.hands)
+      same = ap (λ (notes : Journal ℕ). length notes) (where_notes (taker never silent) _ unpublished goes.ready goes.hands)
 
       counted : (some : Bool) → MakesRound meaning reads asked (nat_lt 0 goes.ready.idle) (round_of goes.ready) some (round_of unpublished) → CountsIdle goes.ready.tries some goes.ready.idle true 0 → ⊥
       counted true makes counts = omega (arith, same, round_wrote _ (round_of goes.ready) (round_of unpublished) makes refl)
@@ -78,15 +78,15 @@ module _ (meaning : Meaning ℕ ℕ) (reads : ℕ → ℕ → ℕ → Type 0) (a
   look_keeps some old new looks = omega (arith, grown _ _ looks.steps.stays.grows, grown _ _ looks.turn_steps.stays.grows, grown _ _ looks.gathers.stays.grows)
 
   -- it sleeps, and its note isn't published
-  sleeps_unpublished : (tired told : SmallWorker) (slept : Bool) → tired.shown ≡ board_of [] 0 → ShowsNow tired told → Rests meaning reads asked (taker never silent) told slept unpublished → ⊥
-  sleeps_unpublished tired told slept was shows rests = is_told shows.shows
+  sleeps_unpublished : (tired told : SmallWorker) (found : Bool) → tired.shown ≡ board_of [] 0 → ShowsNow tired told → Rests meaning reads asked (taker never silent) told found unpublished → ⊥
+  sleeps_unpublished tired told found was shows rests = is_told shows.shows
     where
       count : 0 ≡ told.shown.count
-      count = ap (λ (shown : ShownView ℕ). shown.count) (rests.keeps.shown ∙ where_shown meaning reads asked (taker never silent) _ told rests.ready rests.hands)
+      count = ap (λ (shown : ShownView ℕ). shown.count) (rests.keeps.shown ∙ where_shown (taker never silent) _ told rests.ready rests.hands)
 
       few : length tired.linked.recorded.journal.notes ≤ 1
       few =
-          let kept = ap (λ (notes : Journal ℕ). length notes) (where_notes has never _ told rests.ready rests.hands) in
+          let kept = ap (λ (notes : Journal ℕ). length notes) (where_notes (taker never silent) _ told rests.ready rests.hands) in
           let still = ap (λ (worker : SmallWorker). length worker.linked.recorded.journal.notes) shows.rest in
           omega (arith, kept, still, look_keeps _ (round_of rests.ready) (round_of unpublished) rests.looks)
 
@@ -98,5 +98,5 @@ module _ (meaning : Meaning ℕ ℕ) (reads : ℕ → ℕ → ℕ → Type 0) (a
   -- it goes on without a note, or lies down without having published
   stays_unpublished : ServesOnce meaning reads asked (taker never silent) unpublished unpublished → ⊥
   stays_unpublished (inl goes) = goes_on_idle goes
-  stays_unpublished (inr (tired, goes, (told, shows, (slept, rests)))) =
-      sleeps_unpublished tired told slept (goes.keeps.shown ∙ where_shown meaning reads asked (taker never silent) _ unpublished goes.ready goes.hands) shows rests
+  stays_unpublished (inr (tired, goes, (told, shows, (found, rests)))) =
+      sleeps_unpublished tired told found (goes.keeps.shown ∙ where_shown (taker never silent) _ unpublished goes.ready goes.hands) shows rests

@@ -1,35 +1,35 @@
 -- A worker rings for the notes of its steps.
-use Rattle.run_worker.proofs.Names.{ap, AreRung, arith, BellsView, Bool, creations, drop, Entry, HasRung, is_opening, Journal, JournalView, length, List, no_shorter, refl, replicate, reverse, reverse-append, rung_along, rung_behind}
-use Rattle.run_worker.proofs.Names.{rung_for, ServedView, StepsServed, subst, sym, true, ℕ, [], ◌+◌, ◌∙◌, ◌∷◌, ◌≡◌, ◌≤◌}
+use Rattle.run_worker.proofs.Names.{ap, AreRung, arith, BellsView, creations, drop, Entry, HasRung, is_opening, Journal, JournalView, length, List, no_shorter, refl, replicate, reverse, reverse-append, rung_along, rung_behind}
+use Rattle.run_worker.proofs.Names.{rung_for, ServedView, StaysLinked, subst, sym, true, ℕ, [], ◌+◌, ◌∙◌, ◌∷◌, ◌≡◌, ◌≤◌}
 use Rattle.base_words.specs.declared.note.Note.TheVariants.{Created}
 use Rattle.run_worker.proofs.Openings.{creations_behind}
 
 -- a step of a worker, after the rings for its notes
-pub are_rung : {J T : Type 0} {some : Bool} (old new : ServedView J T) (before after : BellsView) → StepsServed old some new → AreRung old before →
+pub are_rung : {J T : Type 0} (old new : ServedView J T) (before after : BellsView) → StaysLinked old.linked new.linked → AreRung old before →
     after.rings ≡ rung_for (drop (length old.linked.recorded.journal.notes) (reverse new.linked.recorded.journal.notes)) before.rings → AreRung new after
-are_rung old new before after steps has rings =
-    subst (λ cores. HasRung cores new.linked.recorded.journal.notes after.rings) (sym steps.stays.seat.cores)
-    (rung_behind old.linked.recorded.core.cores old.linked.recorded.journal.notes new.linked.recorded.journal.notes before.rings after.rings has steps.stays.grows rings)
+are_rung old new before after stays has rings =
+    subst (λ cores. HasRung cores new.linked.recorded.journal.notes after.rings) (sym stays.seat.cores)
+    (rung_behind old.linked.recorded.core.cores old.linked.recorded.journal.notes new.linked.recorded.journal.notes before.rings after.rings has stays.grows rings)
 
-module _ {J T : Type 0} {some : Bool} (old new : ServedView J T) (first journal : JournalView T) (count : ℕ) (was : first ≡ old.linked.recorded.journal) (is : journal ≡ new.linked.recorded.journal)
-    (kept : length first.passed + count ≡ length first.notes) (steps : StepsServed old some new) where
+module _ {J T : Type 0} (old new : ServedView J T) (first journal : JournalView T) (count : ℕ) (was : first ≡ old.linked.recorded.journal) (is : journal ≡ new.linked.recorded.journal)
+    (kept : length first.passed + count ≡ length first.notes) (stays : StaysLinked old.linked new.linked) where
   -- so many notes of the journal were there before the step
   since_start : length journal.passed + count ≡ length old.linked.recorded.journal.notes
   since_start =
-      let passed : length journal.passed ≡ length first.passed = ap length (ap (λ journal. journal.passed) is ∙ (steps.stays.seat.passed ∙ sym (ap (λ journal. journal.passed) was))) in
+      let passed : length journal.passed ≡ length first.passed = ap length (ap (λ journal. journal.passed) is ∙ (stays.seat.passed ∙ sym (ap (λ journal. journal.passed) was))) in
       let notes : length first.notes ≡ length old.linked.recorded.journal.notes = ap (λ journal. length journal.notes) was in
       omega (arith, passed, kept, notes)
 
   pub since_within : length journal.passed + count ≤ length journal.notes
   since_within =
-      let longer = no_shorter old.linked.recorded.journal.notes new.linked.recorded.journal.notes steps.stays.grows in
+      let longer = no_shorter old.linked.recorded.journal.notes new.linked.recorded.journal.notes stays.grows in
       let now : length journal.notes ≡ length new.linked.recorded.journal.notes = ap (λ journal. length journal.notes) is in
       omega (arith, since_start, longer, now)
 
   -- the rings for the notes behind those that were kept before
   pub since_rung : (before after : BellsView) → AreRung old before → after.rings ≡ rung_for (drop (length journal.passed + count) (reverse journal.notes)) before.rings → AreRung new after
   since_rung before after has rings =
-      are_rung old new before after steps has
+      are_rung old new before after stays has
       (rings
       ∙ (ap (λ place. rung_for (drop place (reverse journal.notes)) before.rings) since_start
       ∙ ap (λ journal. rung_for (drop (length old.linked.recorded.journal.notes) (reverse journal.notes)) before.rings) is))

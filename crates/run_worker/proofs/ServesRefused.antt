@@ -44,12 +44,12 @@ takes_none old new (Ok done) kept passes = let none : [] ≡ one_note = passes.1
 takes_none old new (Err why) kept passes = passes.2
 
 -- where it is due, what is kept isn't left
-is_handed : {due : Type 0} (room : ℕ) (ready : SmallWorker) → due → ready.sink ≡ [] → HandsOnWhere has never silent due (keeping room) ready → ⊥
+is_handed : {due : Type 0} (room : ℕ) (ready : SmallWorker) → due → ready.sink ≡ [] → HandsOnWhere (taker never silent) due (keeping room) ready → ⊥
 is_handed room ready due none (inl (_, did, _)) = takes_none (keeping room).linked.recorded.journal ready.linked.recorded.journal did.answer refl (rw none at did.passes)
 is_handed room ready due none (inr (idle, _)) = idle due
 
 -- where it is due, a sink that refused before is asked again
-is_asked : {due : Type 0} (old ready : SmallWorker) → due → HandsOnWhere has always twice due old ready → ⊥
+is_asked : {due : Type 0} (old ready : SmallWorker) → due → HandsOnWhere (taker always twice) due old ready → ⊥
 is_asked old ready due (inl (_, did, _)) = unasked old.sink ready.sink did.asked
 is_asked old ready due (inr (idle, _)) = idle due
 
@@ -68,22 +68,22 @@ module _ (meaning : Meaning ℕ ℕ) (reads : ℕ → ℕ → ℕ → Type 0) (a
   hands_on_too_early : (again : Bool) → Goes (keeping 1000) again (handed 1001) → ⊥
   hands_on_too_early again did = is_early did.ready did.keeps.sink did.hands
     where
-      is_early : (ready : SmallWorker) → one_note ≡ ready.sink → HandsOnWhere has never silent (IsDue (served_of (keeping 1000))) (keeping 1000) ready → ⊥
+      is_early : (ready : SmallWorker) → one_note ≡ ready.sink → HandsOnWhere (taker never silent) (IsDue (served_of (keeping 1000))) (keeping 1000) ready → ⊥
       is_early ready same (inl ((_, inl few), _, _)) = omega (arith, few)
       is_early ready same (inl ((_, inr half), _, _)) = omega (arith, half)
       is_early ready same (inr (_, still)) = let none : one_note ≡ [] = same ∙ ap (λ (worker : SmallWorker). worker.sink) still in cc
 
   -- it rests, and the note is kept
-  keeps_before_a_rest : (slept : Bool) → Sleeps (keeping 1000) slept (keeping 1000) → ⊥
-  keeps_before_a_rest slept did = is_handed 1000 did.ready (refl, omega arith) (sym did.keeps.sink) did.hands
+  keeps_before_a_rest : (found : Bool) → Sleeps (keeping 1000) found (keeping 1000) → ⊥
+  keeps_before_a_rest found did = is_handed 1000 did.ready (refl, omega arith) (sym did.keeps.sink) did.hands
 
   -- its sink refused the note, and isn't asked again before the round
   asks_no_more_before_a_round : (again : Bool) → GoesOn meaning reads asked (taker always twice) (keeping 64) again (keeping 64) → ⊥
   asks_no_more_before_a_round again did = is_asked (keeping 64) did.ready (refl, inl (omega arith)) did.hands
 
   -- nor before the rest
-  asks_no_more_before_a_rest : (slept : Bool) → Rests meaning reads asked (taker always twice) (keeping 1000) slept (keeping 1000) → ⊥
-  asks_no_more_before_a_rest slept did = is_asked (keeping 1000) did.ready (refl, omega arith) did.hands
+  asks_no_more_before_a_rest : (found : Bool) → Rests meaning reads asked (taker always twice) (keeping 1000) found (keeping 1000) → ⊥
+  asks_no_more_before_a_rest found did = is_asked (keeping 1000) did.ready (refl, omega arith) did.hands
 
 -- a worker that tries two rounds more goes on behind the first idle round
 goes_on : CountsIdle 2 false 0 true 1

@@ -1,9 +1,10 @@
 -- What the steps of a round tell of their notes, one after another.
 use Rattle.run_worker.proofs.Names.{Answer, ap, arith, Bool, CollectsOf, DeliversFrom, effect_note, false, Grows, IsDelivery, IsShort, JobId, Journal, length, length-append, LinkedView, List, LooksAtRoom, lt-ltb, nat_lt, no_shorter, None}
-use Rattle.run_worker.proofs.Names.{Note, Option, Order, refl, ServedView, Some, stays_along, stays_same, StaysLinked, StepsServed, subst, suc, sym, TellsNotes, true, with_effect, zero, ℕ, [], ◌*◌, ◌++◌, ◌+◌, ◌<◌, ◌∙◌, ◌∷◌, ◌≡◌}
+use Rattle.run_worker.proofs.Names.{Note, Option, Order, refl, ServedView, Some, stays_along, stays_same, StaysLinked, StepsServed, subst, suc, sym, TellsNotes, true, with_effect, zero, ℕ, [], ◌*◌, ◌++◌, ◌+◌, ◌<◌, ◌∙◌, ◌∷◌, ◌≡◌, ◌≤◌}
 use Rattle.std.specs.Prelude.{◌||◌}
 use Rattle.base_words.specs.declared.note.Note.TheVariants as writes
 use Rattle.base_words.specs.declared.order.Order.TheVariants.{Job, Create, SetShares, Close, CloseCore, Wake}
+use Rattle.run_worker.proofs.Fewer.{few_along, few_more, few_none, looked_few, same_between}
 
 effects_some : (T : Type 0) (name : JobId) (order : Order (Unit {0})) (answer : Answer) → 0 < length (with_effect {T = T} (effect_note name.to order answer) (writes.Answered name answer ∷ []))
 effects_some T name order answer = by_effect (effect_note name.to order answer)
@@ -58,23 +59,6 @@ module _ {J T : Type 0} where
   pub collected_tells : (core count : ℕ) (old new : LinkedView J T) → CollectsOf core old count new → TellsNotes (nat_lt 0 count) old.recorded.journal.notes new.recorded.journal.notes
   collected_tells core count old new did = collected_notes count did.collects.0 old.recorded.journal.notes new.recorded.journal.notes (ap (λ journal. journal.notes) did.collects.3) did.collects.2
 
--- three answers, the second one first
-order_of_three : (one two three : Bool) → (one || two) || three ≡ two || (one || three)
-order_of_three true true three = refl
-order_of_three true false three = refl
-order_of_three false true three = refl
-order_of_three false false three = refl
-
--- a worker that came to its end before came to it between
-pub same_between : (old middle new : Bool) → (old ≡ true → middle ≡ true) → (middle ≡ true → new ≡ true) → new ≡ old → middle ≡ old
-same_between true middle new one two is = one refl
-same_between false false new one two is = refl
-same_between false true new one two is = sym (two refl) ∙ is
-
-pub not_before : (old new : Bool) → (old ≡ true → new ≡ true) → new ≡ false → old ≡ false
-not_before false new one is = refl
-not_before true new one is = sym (one refl) ∙ is
-
 module _ {J T : Type 0} where
   -- a short journal stays short
   still_short : (old new : LinkedView J T) → StaysLinked old new → IsShort old.recorded → IsShort new.recorded
@@ -84,57 +68,56 @@ module _ {J T : Type 0} where
       omega (arith, short, longer, same, stays.seat.burst, stays.seat.room)
 
   -- the room is looked at, and then a step is made
-  pub looked_steps : (old middle inside : ServedView J T) (new : LinkedView J T) (some : Bool) → inside ≡ middle → LooksAtRoom old middle → StaysLinked old.linked middle.linked → StaysLinked inside.linked new →
-      TellsNotes some inside.linked.recorded.journal.notes new.recorded.journal.notes → StepsServed old some (record { linked = new; ending = inside.ending })
-  looked_steps old middle inside new some seen looks stays stepped told = record {
+  pub looked_steps : (most : ℕ) (old middle inside : ServedView J T) (new : LinkedView J T) (some : Bool) → inside ≡ middle → LooksAtRoom old middle → StaysLinked old.linked middle.linked → StaysLinked inside.linked new →
+      TellsNotes some inside.linked.recorded.journal.notes new.recorded.journal.notes → length new.recorded.journal.notes ≤ length inside.linked.recorded.journal.notes + most →
+      StepsServed most old some (record { linked = new; ending = inside.ending })
+  looked_steps most old middle inside new some seen looks stays stepped told few = record {
     stays = stays_along old.linked middle.linked new stays (subst (λ (view : ServedView J T). StaysLinked view.linked new) seen stepped);
     ended = λ is. ap (λ view. view.ending) seen ∙ looks.ended is;
     short = λ was now. still_short old.linked new (stays_along old.linked middle.linked new stays (subst (λ (view : ServedView J T). StaysLinked view.linked new) seen stepped)) (looks.short was (sym (ap (λ view. view.ending) seen) ∙ now));
     tells = λ same.
         let whole : inside ≡ old = seen ∙ looks.same (sym (ap (λ view. view.ending) seen) ∙ same) in
         subst (λ (view : ServedView J T). TellsNotes some view.linked.recorded.journal.notes new.recorded.journal.notes) whole told;
+    few = looked_few most old middle inside new seen looks few;
   }
 
   -- the room is looked at, and nothing else is done
-  pub looked_alone : (old middle : ServedView J T) → LooksAtRoom old middle → StaysLinked old.linked middle.linked → StepsServed old false middle
-  looked_alone old middle looks stays = record {
+  pub looked_alone : (most : ℕ) (old middle : ServedView J T) → LooksAtRoom old middle → StaysLinked old.linked middle.linked → StepsServed most old false middle
+  looked_alone most old middle looks stays = record {
     stays = stays;
     ended = looks.ended;
     short = λ was now. still_short old.linked middle.linked stays (looks.short was now);
     tells = λ same. ap (λ view. view.linked.recorded.journal.notes) (looks.same same);
+    few = looked_few most old middle middle middle.linked refl looks (omega arith);
   }
 
-  pub steps_none : (view : ServedView J T) → StepsServed view false view
-  steps_none view = record { stays = stays_same view.linked; ended = λ is. is; short = λ was now. cc; tells = λ same. refl }
+  pub steps_none : (most : ℕ) (view : ServedView J T) → StepsServed most view false view
+  steps_none most view = record { stays = stays_same view.linked; ended = λ is. is; short = λ was now. cc; tells = λ same. refl; few = few_none most view }
+
+  -- at most so many notes are at most more
+  pub steps_wider : (one most : ℕ) (some : Bool) (old new : ServedView J T) → one ≤ most → StepsServed one old some new → StepsServed most old some new
+  steps_wider one most some old new low steps = record { stays = steps.stays; ended = steps.ended; short = steps.short; tells = steps.tells; few = few_more one most old new low steps.few }
 
   -- one step behind others
-  pub steps_more : (one two : Bool) (old middle new : ServedView J T) → StepsServed old one middle → StepsServed middle two new → StepsServed old (one || two) new
-  steps_more one two old middle new first next = record {
+  pub steps_more : (few more most : ℕ) (one two : Bool) (old middle new : ServedView J T) → few + more ≤ most → StepsServed few old one middle → StepsServed more middle two new → StepsServed most old (one || two) new
+  steps_more few more most one two old middle new low first next = record {
     stays = stays_along old.linked middle.linked new.linked first.stays next.stays;
     ended = λ is. next.ended (first.ended is);
     short = λ was now. by_middle was now middle.ending refl;
     tells = λ same.
         let between : middle.ending ≡ old.ending = same_between old.ending middle.ending new.ending first.ended next.ended same in
         tells_more one two old.linked.recorded.journal.notes middle.linked.recorded.journal.notes new.linked.recorded.journal.notes first.stays.grows (first.tells between) (next.tells (same ∙ sym between));
+    few = few_along few more most old middle new first.ended next.ended first.stays.seat first.few next.few low;
   }
     where
       by_middle : old.ending ≡ false → new.ending ≡ true → (ending : Bool) → middle.ending ≡ ending → IsShort new.linked.recorded
       by_middle was now true is = still_short middle.linked new.linked next.stays (first.short was is)
       by_middle was now false is = next.short is now
 
-  pub steps_found : (some : Bool) (old middle new : ServedView J T) → StepsServed old some middle → StepsServed middle true new → StepsServed old true new
-  steps_found true old middle new first next = steps_more true true old middle new first next
-  steps_found false old middle new first next = steps_more false true old middle new first next
+  pub steps_found : (few more most : ℕ) (some : Bool) (old middle new : ServedView J T) → few + more ≤ most → StepsServed few old some middle → StepsServed more middle true new → StepsServed most old true new
+  steps_found few more most true old middle new low first next = steps_more few more most true true old middle new low first next
+  steps_found few more most false old middle new low first next = steps_more few more most false true old middle new low first next
 
-  pub steps_same : (some : Bool) (old middle new : ServedView J T) → StepsServed old some middle → StepsServed middle false new → StepsServed old some new
-  steps_same true old middle new first next = steps_more true false old middle new first next
-  steps_same false old middle new first next = steps_more false false old middle new first next
-
-  -- three steps, of which the answer of the second one is told first
-  pub steps_three : (one two three : Bool) (old middle later new : ServedView J T) → StepsServed old one middle → StepsServed middle two later → StepsServed later three new → StepsServed old (two || (one || three)) new
-  steps_three one two three old middle later new first second third =
-      subst (λ some. StepsServed old some new) (order_of_three one two three) (steps_more (one || two) three old later new (steps_more one two old middle later first second) third)
-
-  -- the cores of the house are the same behind two steps
-  pub steps_cores : {one two : Bool} {old middle new : ServedView J T} → StepsServed old one middle → StepsServed middle two new → new.linked.recorded.core.cores ≡ old.linked.recorded.core.cores
-  steps_cores first second = second.stays.seat.cores ∙ first.stays.seat.cores
+  pub steps_same : (few more most : ℕ) (some : Bool) (old middle new : ServedView J T) → few + more ≤ most → StepsServed few old some middle → StepsServed more middle false new → StepsServed most old some new
+  steps_same few more most true old middle new low first next = steps_more few more most true false old middle new low first next
+  steps_same few more most false old middle new low first next = steps_more few more most false false old middle new low first next

@@ -3,18 +3,13 @@ use Rattle.std.specs.Prelude.{◌≡◌, ℕ, Bool}
 use Rattle.base_words.specs.declared.names.JobId.{JobId}
 use Rattle.base_jobs.specs.Meanings.{Meaning}
 use Rattle.actor_seat.specs.Bells.{BellsView, once_more}
-use Rattle.run_worker.specs.Asks.{AsksSince}
-use Rattle.run_worker.specs.Few.{RoundsFew}
 use Rattle.run_worker.specs.Looks.{LooksAtAll, RoundView}
-use Rattle.run_worker.specs.Rounds.{AreRung, StepsServed}
+use Rattle.run_worker.specs.Rounds.{AreRung}
 
 module _ {J T C G : Type 0} (meaning : Meaning J T) (reads : C → ℕ → C → Type 0) (asked : G → ℕ → JobId → G → Type 0) where
   -- One look at everything, which counts as one, and tells whether anything was done. The same bells are rung for its notes.
   pub record LooksAgain (looks : ℕ) (bells : BellsView) (old : RoundView J T C G) (some : Bool) (counted : ℕ) (rung : BellsView) (new : RoundView J T C G) : Type 0 where
     pub counts : counted ≡ once_more looks
     pub all : LooksAtAll meaning reads asked old some new
-    pub asks : AsksSince asked old.served.linked.recorded.core.core old.served.linked.recorded.journal.notes new.served.linked.recorded.journal.notes old.gate new.gate
-    pub steps : StepsServed old.served some new.served
-    pub few : RoundsFew old.served new.served
     pub rings : AreRung new.served rung
     pub names : rung.names ≡ bells.names

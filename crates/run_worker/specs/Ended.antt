@@ -7,7 +7,7 @@ use Rattle.actor_core.specs.Recorded.{RecordedView}
 use Rattle.note_journal.specs.Journals.{places_of}
 use Rattle.actor_seat.specs.Linked.{LinkedView, IsBetweenTurns, IsLinked}
 use Rattle.run_worker.specs.Rooms.{least_free, ActsAsItMay, ActsByCommand, IsProvided, MayAct}
-use Rattle.run_worker.specs.Shown.{IsShownWhole, ShownView}
+use Rattle.run_worker.specs.Shown.{IsShownWhole, ShownView, TellsAlone}
 
 -- a linked core, and whether its worker is at its end: then it hands everything back and polls no more
 pub record ServedView (J T : Type 0) : Type 0 where
@@ -34,6 +34,12 @@ module _ {J T : Type 0} (meaning : Meaning J T) where
     pub linked : IsLinked meaning view
     pub between : IsBetweenTurns view.recorded
     pub drained : IsDrained view.recorded.core.cores view.recorded.journal.notes
+
+-- what a worker knows of its seat beside it: how many cores there are, with how few free notes its journal is short, and whether the core closed by itself
+pub record KnowsSeat {J : Type 0} (cores least : ℕ) (alone : Bool) (view : LinkedView J ℕ) : Type 0 where
+  pub cores_are : cores ≡ view.recorded.core.cores
+  pub least_is : least ≡ least_free view.recorded.core.cores view.recorded.cap view.recorded.core.bursts.burst
+  pub tells : TellsAlone alone view.recorded.journal.notes
 
 module _ {J T S : Type 0} (refused : S → ℕ → Type 0) where
   -- The core never closed by itself; or the sink refused when it had so many notes, and the core closed by itself only where the journal, with these notes passed

@@ -18,10 +18,18 @@ module _ {J T : Type 0} where
         → least_free old.linked.recorded.core.cores old.linked.recorded.cap old.linked.recorded.core.bursts.burst + count ≤ free_notes old.linked.recorded.journal
         → new.ending ≡ false
 
-  -- the same of a turn
-  abbrev pub TurnsFew : ServedView J T → ServedView J T → Type 0
-  TurnsFew old new = WritesFew (most_of_turn old.linked.recorded.core.cores old.linked.recorded.cap old.linked.recorded.core.bursts.burst) old new
+  -- so many notes a turn of this worker writes at most
+  abbrev pub turn_most : ServedView J T → ℕ
+  turn_most view = most_of_turn view.linked.recorded.core.cores view.linked.recorded.cap view.linked.recorded.core.bursts.burst
 
-  -- the same of a whole round: so many as a short journal lacks
-  abbrev pub RoundsFew : ServedView J T → ServedView J T → Type 0
-  RoundsFew old new = WritesFew (least_free old.linked.recorded.core.cores old.linked.recorded.cap old.linked.recorded.core.bursts.burst) old new
+  -- so many a whole round writes at most: as many as a short journal lacks
+  abbrev pub round_most : ServedView J T → ℕ
+  round_most view = least_free view.linked.recorded.core.cores view.linked.recorded.cap view.linked.recorded.core.bursts.burst
+
+  -- gates that are shut, and deliveries: one for each sender, and two for each place of each link
+  abbrev pub taken_most : ServedView J T → ℕ
+  taken_most view = view.linked.recorded.core.cores + 1 + (view.linked.recorded.core.cores + 1) * (2 * view.linked.recorded.cap)
+
+  -- outcomes that are collected: one for each place of each link
+  abbrev pub got_most : ServedView J T → ℕ
+  got_most view = view.linked.recorded.core.cores * view.linked.recorded.cap

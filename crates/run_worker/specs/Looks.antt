@@ -5,6 +5,7 @@ use Rattle.base_words.specs.Closing.{core_mode}
 use Rattle.base_jobs.specs.Meanings.{Meaning}
 use Rattle.run_worker.specs.Asks.{NotesNoPoll}
 use Rattle.run_worker.specs.Ended.{ServedView, IsServed}
+use Rattle.run_worker.specs.Few.{got_most, taken_most, turn_most}
 use Rattle.run_worker.specs.Readings.{TimesNext, WatchView, kept_behind}
 use Rattle.run_worker.specs.Rounds.{CollectsFirst, HearsAll, ShutsClosed, StepsServed}
 use Rattle.actor_seat.specs.Steps.{HasNoTurn}
@@ -53,14 +54,14 @@ module _ {J T C G : Type 0} (meaning : Meaning J T) (reads : C → ℕ → C →
     pub came : Bool
     pub worked : Bool
     pub back : Bool
-    pub steps : StepsServed old.served came heard
+    pub steps : StepsServed (taken_most old.served) old.served came heard
     pub shuts : ShutsClosed old.served.linked heard.linked
     pub hears : HearsAll (old.served.linked.recorded.core.cores + 1) old.served heard
     pub sound : IsServed meaning heard
     pub none_before : NotesNoPoll old.served.linked.recorded.journal.notes heard.linked.recorded.journal.notes
     pub turn : TakesTurn meaning (TimesNext reads) asked old.watch timed old.gate new.gate heard worked turned
-    pub turn_steps : StepsServed heard worked turned
-    pub gathers : StepsServed turned back new.served
+    pub turn_steps : StepsServed (turn_most heard) heard worked turned
+    pub gathers : StepsServed (got_most turned) turned back new.served
     pub collects : CollectsFirst old.served.linked.recorded.core.cores new.served
     pub none_behind : NotesNoPoll turned.linked.recorded.journal.notes new.served.linked.recorded.journal.notes
     pub tells : some ≡ (worked || (came || back))
@@ -71,7 +72,7 @@ module _ {J T C G : Type 0} (meaning : Meaning J T) (reads : C → ℕ → C →
   abbrev pub TurnsAlone : RoundView J T C G → Bool → RoundView J T C G → Type 0
   TurnsAlone old some new =
       (PassesLinks old.watch.taken old.turns false new.turns × (some ≡ false) × (new ≡ old))
-      ⊎ (PassesLinks old.watch.taken old.turns true new.turns × TakesTurn meaning (TimesNext reads) asked old.watch new.watch old.gate new.gate old.served some new.served × StepsServed old.served some new.served)
+      ⊎ (PassesLinks old.watch.taken old.turns true new.turns × TakesTurn meaning (TimesNext reads) asked old.watch new.watch old.gate new.gate old.served some new.served × StepsServed (turn_most old.served) old.served some new.served)
 
   -- a look at everything; or none and nothing else, behind a round in which nothing was done, where no turn is to be made
   abbrev pub LooksOrRests : Bool → RoundView J T C G → Bool → RoundView J T C G → Type 0

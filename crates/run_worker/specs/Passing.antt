@@ -1,10 +1,11 @@
 -- When a worker passes on the notes that its journal keeps, and what that changes.
-use Rattle.std.specs.Prelude.{◌≡◌, ◌⊎◌, ℕ, ◌-◌, ◌*◌, ◌<◌, ◌≤◌, true, false, length, Option, Result}
+use Rattle.std.specs.Prelude.{◌≡◌, ◌⊎◌, ℕ, ◌-◌, ◌*◌, ◌<◌, ◌≤◌, true, false, length, Result}
 use Rattle.base_words.specs.Journal.{Journal}
 use Rattle.actor_core.specs.Recorded.{RecordedView}
 use Rattle.note_journal.specs.Journals.{JournalView, free_notes, places_of}
 use Rattle.note_journal.specs.Passing.{IsAsked, KeepsRefusals, PassesOn}
 use Rattle.note_journal.specs.declared.sink.Refused.{Refused}
+use Rattle.note_journal.specs.declared.sink.Sink as taking
 use Rattle.run_worker.specs.Ended.{ServedView}
 use Rattle.actor_seat.specs.Linked.{LinkedView}
 use Rattle.run_worker.specs.Rooms.{least_free}
@@ -44,16 +45,17 @@ module _ {J T S : Type 0} (has : S → Journal T) (refused : S → ℕ → Type 
       (2 * least_free served.linked.recorded.core.cores served.linked.recorded.cap served.linked.recorded.core.bursts.burst ≤ free_notes served.linked.recorded.journal)
       ⊎ refused sink (length served.linked.recorded.journal.passed)
 
-module _ {J T S : Type 0} (has : S → Journal T) (refused : S → ℕ → Type 0) (asks : S → Option ℕ) where
-  -- All notes that are kept are handed to the sink, which is asked once, and takes them or refuses. Nothing else changes.
-  pub record HandsOn (old : LinkedView J T) (before : S) (new : LinkedView J T) (after : S) : Type 0 where
+module _ {J S : Type 0} (takes : taking.Ghosts S) where
+  -- All notes that are kept are handed to the sink, which is asked once, and takes them or refuses. It bears the same mark. Nothing else changes.
+  pub record HandsOn (old : LinkedView J ℕ) (before : S) (new : LinkedView J ℕ) (after : S) : Type 0 where
     pub answer : Result (Unit {0}) Refused
-    pub passes : PassesOn has refused old.recorded.journal before answer new.recorded.journal after
-    pub refusals : KeepsRefusals refused before after
-    pub asked : IsAsked (asks before) (asks after)
+    pub passes : PassesOn takes.has takes.refused old.recorded.journal before answer new.recorded.journal after
+    pub refusals : KeepsRefusals takes.refused before after
+    pub asked : IsAsked (takes.asks before) (takes.asks after)
+    pub marked : takes.mark after ≡ takes.mark before
     pub rest : new ≡ record old { recorded = record old.recorded { journal = new.recorded.journal } }
 
   -- where it is due, what is kept is handed to the sink and nothing else is done; where it isn't, nothing is done
-  abbrev pub HandsOnWhere : {C G : Type 0} → Type 0 → WorkerView J T C G S → WorkerView J T C G S → Type 0
+  abbrev pub HandsOnWhere : {C G : Type 0} → Type 0 → WorkerView J ℕ C G S → WorkerView J ℕ C G S → Type 0
   HandsOnWhere due old new =
       (due × HandsOn old.linked old.sink new.linked new.sink × (new ≡ record old { linked = new.linked; sink = new.sink })) ⊎ ((due → ⊥) × (new ≡ old))

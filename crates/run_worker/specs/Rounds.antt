@@ -6,6 +6,7 @@ use Rattle.link_ring.specs.Ends.{in_at, out_at}
 use Rattle.actor_seat.specs.Bells.{BellsView, HasRung}
 use Rattle.actor_seat.specs.Linked.{LinkedView, StaysLinked}
 use Rattle.run_worker.specs.Ended.{ServedView}
+use Rattle.run_worker.specs.Few.{WritesFew}
 use Rattle.run_worker.specs.Rooms.{IsShort}
 use Rattle.actor_core.specs.declared.whole.Turned.{Turned}
 use Rattle.actor_core.specs.declared.whole.Turned.TheVariants.{Polled, Returned, Idle, Spent}
@@ -56,13 +57,14 @@ module _ {J T : Type 0} where
     pub same : new.ending ≡ old.ending → new ≡ old
     pub short : old.ending ≡ false → new.ending ≡ true → IsShort old.linked.recorded
 
-  -- What each step keeps, and that it tells whether it did anything, unless its worker came to its end meanwhile. A worker comes to its end only if its
-  -- journal is short, and stays there.
-  pub record StepsServed (old : ServedView J T) (some : Bool) (new : ServedView J T) : Type 0 where
+  -- What each step keeps, how many notes it writes at most, and that it tells whether it did anything, unless its worker came to its end meanwhile. A worker
+  -- comes to its end only if its journal is short, and stays there.
+  pub record StepsServed (most : ℕ) (old : ServedView J T) (some : Bool) (new : ServedView J T) : Type 0 where
     pub stays : StaysLinked old.linked new.linked
     pub ended : old.ending ≡ true → new.ending ≡ true
     pub short : old.ending ≡ false → new.ending ≡ true → IsShort new.linked.recorded
     pub tells : new.ending ≡ old.ending → TellsNotes some old.linked.recorded.journal.notes new.linked.recorded.journal.notes
+    pub few : WritesFew most old new
 
   -- one more order of this sender was delivered, or all that its end has seen were; no other end was touched
   pub record HearsOne (sender : ℕ) (old : LinkedView J T) (found : Bool) (new : LinkedView J T) : Type 0 where

@@ -1,5 +1,5 @@
 -- How a worker serves its core: round after round, and a rest where nothing is to be done.
-use Rattle.std.specs.Prelude.{◌≡◌, ◌⊎◌, ℕ, ◌+◌, ◌≤◌, ◌<◌, Bool, true, false, not, nat_lt, if◌then◌else◌, List, [], ◌∷◌}
+use Rattle.std.specs.Prelude.{◌≡◌, ◌⊎◌, ℕ, ◌+◌, ◌≤◌, ◌<◌, Bool, true, false, nat_lt, if◌then◌else◌, List, [], ◌∷◌}
 use Rattle.base_words.specs.declared.names.JobId.{JobId}
 use Rattle.note_journal.specs.declared.sink.Sink as taking
 use Rattle.base_jobs.specs.Meanings.{Meaning}
@@ -51,25 +51,25 @@ module _ {J C G S : Type 0} (meaning : Meaning J ℕ) (reads : C → ℕ → C �
   -- notes are passed on where the journal is low, and then there is one round; and whether the next one is made at once
   pub record GoesOn (old : WorkerView J ℕ C G S) (again : Bool) (new : WorkerView J ℕ C G S) : Type 0 where
     pub ready : WorkerView J ℕ C G S
-    pub hands : HandsOnWhere takes.has takes.refused takes.asks (IsDue (served_of old)) old ready
+    pub hands : HandsOnWhere takes (IsDue (served_of old)) old ready
     pub some : Bool
     pub makes : MakesRound meaning reads asked (nat_lt 0 ready.idle) (round_of ready) some (round_of new)
     pub counts : CountsIdle ready.tries some ready.idle again new.idle
     pub keeps : KeepsTries ready new
 
-  -- notes are passed on where one is kept, and then there is a look at everything, behind which it sleeps only if there was nothing; else it counts anew
-  pub record Rests (old : WorkerView J ℕ C G S) (slept : Bool) (new : WorkerView J ℕ C G S) : Type 0 where
+  -- notes are passed on where one is kept, and then there is a look at everything, behind which it sleeps only if it found nothing; else it counts anew
+  pub record Rests (old : WorkerView J ℕ C G S) (found : Bool) (new : WorkerView J ℕ C G S) : Type 0 where
     pub ready : WorkerView J ℕ C G S
-    pub hands : HandsOnWhere takes.has takes.refused takes.asks (IsDueAtRest (served_of old)) old ready
-    pub looks : LooksAtAll meaning reads asked (round_of ready) (not slept) (round_of new)
-    pub counts : new.idle ≡ (if slept then ready.idle else 0)
+    pub hands : HandsOnWhere takes (IsDueAtRest (served_of old)) old ready
+    pub looks : LooksAtAll meaning reads asked (round_of ready) found (round_of new)
+    pub counts : new.idle ≡ (if found then 0 else ready.idle)
     pub keeps : KeepsTries ready new
 
   -- one round; or one behind which the next one isn't made at once, and then the numbers are published, and there is a rest
   abbrev pub ServesOnce : WorkerView J ℕ C G S → WorkerView J ℕ C G S → Type 0
   ServesOnce old new =
       GoesOn old true new
-      ⊎ ((tired : WorkerView J ℕ C G S) × GoesOn old false tired × ((told : WorkerView J ℕ C G S) × ShowsNow tired told × ((slept : Bool) × Rests told slept new)))
+      ⊎ ((tired : WorkerView J ℕ C G S) × GoesOn old false tired × ((told : WorkerView J ℕ C G S) × ShowsNow tired told × ((found : Bool) × Rests told found new)))
 
   -- The numbers are published if it is time, and then there is one round, and a rest where the next one isn't made at once. They are published once more where
   -- the worker came to its end by it.
@@ -91,4 +91,4 @@ module _ {J C G S : Type 0} (meaning : Meaning J ℕ) (reads : C → ℕ → C �
     pub last : WorkerView J ℕ C G S
     pub serves : ServesOn old last
     pub shows : Shows last.linked.recorded.journal.notes last.shown new.shown
-    pub hands : HandsOn takes.has takes.refused takes.asks last.linked last.sink new.linked new.sink
+    pub hands : HandsOn takes last.linked last.sink new.linked new.sink

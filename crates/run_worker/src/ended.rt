@@ -5,7 +5,6 @@ ghost use Rattle.run_watch.specs.Growth.{Grows};
 ghost use Rattle.run_worker.specs.Ended.{HasEnded};
 ghost use Rattle.run_worker.specs.Shown.{shown_of};
 
-use crate::linked::Linked;
 use actor_seat::Seat;
 use base_jobs::Task;
 use note_journal::{Sink, Whole};
@@ -16,7 +15,7 @@ use std::marker::Model;
 /// its numbers were published.
 #[derive(Drop)]
 pub struct Ended<J: Task<Out = u64>, S: Sink = Whole> {
-    linked: Linked<J>,
+    seat: Seat<J>,
     sink: S,
     local: J::Local,
     publisher: Publisher,
@@ -31,19 +30,19 @@ impl<J: Task<Out = u64>, S: Sink> Model for Ended<J, S> {
     ghost use Rattle.run_worker.specs.Ended.{HasEnded};
     ghost use Rattle.run_worker.specs.Shown.{shown_of};
 
-    ghost view = { λ e. record { linked = e.linked.seat; sink = e.sink; shown = shown_of e.publisher } };
+    ghost view = { λ e. record { linked = e.seat; sink = e.sink; shown = shown_of e.publisher } };
 
-    ghost invariant = { λ e. HasEnded J.meaning S.has S.refused (record { linked = e.linked.seat; sink = e.sink; shown = shown_of e.publisher }) };
+    ghost invariant = { λ e. HasEnded J.meaning S.has S.refused (record { linked = e.seat; sink = e.sink; shown = shown_of e.publisher }) };
 }
 
 impl<J: Task<Out = u64>, S: Sink> Ended<J, S> {
     /// What a worker gives back at its end.
-    pub fn of(linked: Linked<J>, sink: S, local: J::Local, publisher: Publisher) -> Self
-        requires { HasEnded J.meaning S.has S.refused (record { linked = linked.seat; sink = sink; shown = shown_of publisher }) }
-        ensures { result ≡ record { linked = linked.seat; sink = sink; shown = shown_of publisher } }
+    pub fn of(seat: Seat<J>, sink: S, local: J::Local, publisher: Publisher) -> Self
+        requires { HasEnded J.meaning S.has S.refused (record { linked = seat; sink = sink; shown = shown_of publisher }) }
+        ensures { result ≡ record { linked = seat; sink = sink; shown = shown_of publisher } }
     {
         Ended {
-            linked,
+            seat,
             sink,
             local,
             publisher,
@@ -67,12 +66,12 @@ impl<J: Task<Out = u64>, S: Sink> Ended<J, S> {
         ensures ended { HasEnded J.meaning S.has S.refused self }
     {
         let Ended {
-            linked,
+            seat,
             sink,
             local,
             ..
         } = self;
-        (linked.seat, sink, local)
+        (seat, sink, local)
     }
 
     /// The core with its journal and ends, and the sink.
@@ -81,8 +80,8 @@ impl<J: Task<Out = u64>, S: Sink> Ended<J, S> {
         ensures sink { result.1 ≡ self.sink }
         ensures ended { HasEnded J.meaning S.has S.refused self }
     {
-        let Ended { linked, sink, .. } = self;
-        (linked.seat, sink)
+        let Ended { seat, sink, .. } = self;
+        (seat, sink)
     }
 
     /// The core with its journal and ends, where the sink isn't asked for.
@@ -90,7 +89,7 @@ impl<J: Task<Out = u64>, S: Sink> Ended<J, S> {
         ensures same { result ≡ self.linked }
         ensures ended { HasEnded J.meaning S.has S.refused self }
     {
-        let Ended { linked, .. } = self;
-        linked.seat
+        let Ended { seat, .. } = self;
+        seat
     }
 }

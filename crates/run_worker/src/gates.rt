@@ -1,17 +1,26 @@
-//! How a core closes by itself, and how all its gates are shut.
+//! When a journal is short, how a core closes by itself, and how all its gates are shut.
 
 ghost use Rattle.std.specs.Prelude.{◌≡◌, ◌+◌, ◌<◌, ◌≤◌, IsSome, length, true};
 ghost use Rattle.base_words.specs.Closing.{core_mode};
 ghost use Rattle.run_worker.specs.Asks.{NotesNoPoll};
 ghost use Rattle.actor_seat.specs.Linked.{IsLinked, StaysLinked};
 ghost use Rattle.run_worker.specs.Gates.{LeavesShut, ShutsFirst};
-ghost use Rattle.run_worker.specs.Rooms.{ActsAsItMay, ActsByCommand, HasSpare, IsEnding, IsShort};
+ghost use Rattle.run_worker.specs.Rooms.{ActsAsItMay, ActsByCommand, HasSpare, IsEnding, IsShort, least_free};
 ghost use Rattle.run_worker.specs.Rounds.{TellsNotes};
 ghost use Rattle.run_worker.specs.Shown.{TellsAlone};
 
 use actor_seat::Seat;
 use base_jobs::Task;
 use base_words::{ActorNo, Mode};
+
+/// With fewer notes free than this a journal is short: in a house of so many cores, where a link has so many places and a turn so many polls.
+pub(crate) fn least_of(cores: u8, cap: u16, burst: u8) -> u32
+    ensures { result ≡ least_free cores cap burst }
+{
+    let places = (cores as u32 + 1) * (cap as u32 + 1);
+    let further = (burst as u32).saturating_sub(1);
+    8 * places + 2 * further
+}
 
 /// Shuts the gate of this sender in a closed core, if it is open. Whether it was.
 fn shut_if_open<J: Task<Out = u64>>(seat: &mut Seat<J>, sender: ActorNo) -> bool
@@ -55,6 +64,7 @@ pub(crate) fn shut_gates<J: Task<Out = u64>>(seat: &mut Seat<J>, cores: u8) -> b
 ///
 /// Once in a worker's life: it stands apart, so that the look at the room before each step stays short.
 #[cold]
+#[inline(never)]
 pub(crate) fn end<J: Task<Out = u64>>(seat: &mut Seat<J>, cores: u8) -> bool
     requires spare { HasSpare seat.old.recorded }
     requires short { IsShort seat.old.recorded }

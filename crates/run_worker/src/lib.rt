@@ -16,7 +16,7 @@
 //!
 //! # In which order
 //!
-//! 1. Once, on its own thread: it writes to the memory of its notes (`prefault`), and begins the state of its jobs.
+//! 1. Once, on its own thread: it writes to the memory of its notes, and begins the state of its jobs (`begin`).
 //! 2. Before a round: it publishes if 1024 rounds did something since the last time, and passes on its notes if the journal is low.
 //! 3. A round: turns alone, at most 16 behind a look and no more than 2 microseconds of polls. Or a look: it shuts the gates of a closed
 //!    core, delivers of each sender at most as many orders as a link holds, makes one turn, and collects of each core. It rings for the notes
@@ -32,8 +32,8 @@
 pub mod ended;
 mod gates;
 pub mod laws;
-pub mod linked;
 mod opening;
+mod passing;
 mod rounds;
 pub mod served;
 mod showing;
@@ -42,7 +42,6 @@ pub mod worker;
 
 pub use actor_seat::{Bells, OutsideSeat, Seat, Taken, Turned};
 pub use ended::Ended;
-pub use linked::Linked;
 pub use served::Served;
 pub use stopwatch::Stopwatch;
 pub use worker::Worker;

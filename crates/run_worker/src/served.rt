@@ -7,31 +7,29 @@
 //! - At its end it only delivers and hands back, two notes a step: nothing is polled or collected, and no notes are passed on.
 //! - `alone` says that the close was the worker's own. It is published, and no step asks for it.
 
-ghost use Rattle.std.specs.Prelude.{◌≡◌, ◌+◌, ◌*◌, ◌<◌, ◌≤◌, ◌↔◌, IsTrue, false, is_some, true};
+ghost use Rattle.std.specs.Prelude.{◌≡◌, ◌+◌, ◌*◌, ◌<◌, ◌≤◌, ◌↔◌, IsSome, IsTrue, drop, false, is_some, length, reverse, true};
 ghost use Rattle.base_words.specs.Closing.{IsDrained, core_mode};
 ghost use Rattle.actor_core.specs.Recorded.{IsRecorded};
-ghost use Rattle.run_worker.specs.Asks.{AsksSince, NotesNoPoll};
+ghost use Rattle.run_worker.specs.Asks.{NotesNoPoll};
 ghost use Rattle.run_worker.specs.Ended.{IsServed};
-ghost use Rattle.run_worker.specs.Few.{TurnsFew, WritesFew};
+ghost use Rattle.run_worker.specs.Few.{got_most, taken_most, turn_most};
+ghost use Rattle.actor_seat.specs.Bells.{rung_for};
 ghost use Rattle.actor_seat.specs.Linked.{IsBetweenTurns, IsLinked, StaysLinked};
 ghost use Rattle.run_worker.specs.Gates.{KeepsTaken};
-ghost use Rattle.run_worker.specs.Passing.{HandsOn, HasPlaces, IsDue, IsDueAtRest, IsLow};
-ghost use Rattle.run_worker.specs.Rooms.{ActsByCommand, HasSpare, IsReady, IsShort, least_free};
-ghost use Rattle.run_worker.specs.Rounds.{CollectsFirst, CollectsNext, HasShutGates, HearsFirst, HearsOne, HearsSome, LooksAtRoom, StepsServed, is_turn};
+ghost use Rattle.run_worker.specs.Rooms.{ActsByCommand, HasSpare, IsReady, IsShort};
+ghost use Rattle.run_worker.specs.Rounds.{AreRung, CollectsFirst, CollectsNext, HasShutGates, HearsAll, HearsFirst, HearsOne, HearsSome, LooksAtRoom, ShutsClosed, StepsServed, is_turn};
 ghost use Rattle.actor_seat.specs.Steps.{HasNoTurn};
-ghost use Rattle.run_worker.specs.Shown.{TellsAlone};
 ghost use Rattle.run_worker.specs.Turns.{TakesTurn};
 
-use crate::gates::{end, shut_gates};
-use crate::linked::{Linked, hand_on, least_of};
+use crate::gates::{end, least_of, shut_gates};
 use actor_core::{Recorded, Turned};
-use actor_seat::Seat;
+use actor_seat::{Bells, Seat};
 use base_jobs::{CoreState, Job, Task};
 use base_words::{ActorNo, CoreNo};
 use core_core::{Ahead, PickError};
 use core_queues::Meter;
 use link_ring::Ends;
-use note_journal::{RunningJournal, Sink};
+use note_journal::RunningJournal;
 use run_config::Gate;
 use std::marker::Model;
 
@@ -45,14 +43,27 @@ fn is_work(made: Turned) -> bool
     }
 }
 
+/// Wakes the workers that have something from the notes behind the first `count` that are kept.
+#[inline(always)]
+fn ring_since(bells: &mut Bells, journal: &RunningJournal<u64>, count: usize)
+    requires { length journal.now.passed + count ≤ length journal.now.notes }
+    ensures { bells.new ≡ record bells.old { rings = rung_for (drop (length journal.now.passed + count) (reverse journal.now.notes)) bells.old.rings } }
+{
+    bells.ring_for(journal.since(count));
+}
+
 /// A linked core, and whether its worker is at its end: then each gate is shut, and nothing is polled any more. No job of it is out, and no
 /// turn is open.
 #[derive(Drop)]
 pub struct Served<J: Task<Out = u64>> {
-    pub(crate) linked: Linked<J>,
-    ending: bool,
+    pub(crate) seat: Seat<J>,
+    /// How many cores its house has.
+    cores: u8,
+    /// With how few free notes its journal is short.
+    pub(crate) least: u32,
+    pub(crate) ending: bool,
     /// The core closed by itself.
-    alone: bool,
+    pub(crate) alone: bool,
 }
 
 impl<J: Task<Out = u64>> Model for Served<J> {
@@ -61,16 +72,11 @@ impl<J: Task<Out = u64>> Model for Served<J> {
 
     ghost Value = { ServedView J ℕ };
 
-    ghost use Rattle.std.specs.Prelude.{◌≡◌};
-    ghost use Rattle.run_worker.specs.Ended.{IsServed};
-    ghost use Rattle.run_worker.specs.Rooms.{least_free};
-    ghost use Rattle.run_worker.specs.Shown.{TellsAlone};
+    ghost use Rattle.run_worker.specs.Ended.{IsServed, KnowsSeat};
 
-    ghost view = { λ s. record { linked = s.linked.seat; ending = s.ending } };
+    ghost view = { λ s. record { linked = s.seat; ending = s.ending } };
 
-    ghost invariant = { λ s.
-        IsServed J.meaning (record { linked = s.linked.seat; ending = s.ending }) × TellsAlone s.alone s.linked.seat.recorded.journal.notes
-        × (s.linked.cores ≡ s.linked.seat.recorded.core.cores) × (s.linked.least ≡ least_free s.linked.seat.recorded.core.cores s.linked.seat.recorded.cap s.linked.seat.recorded.core.bursts.burst) };
+    ghost invariant = { λ s. IsServed J.meaning (record { linked = s.seat; ending = s.ending }) × KnowsSeat s.cores s.least s.alone s.seat };
 }
 
 impl<J: Task<Out = u64>> Served<J> {
@@ -86,7 +92,9 @@ impl<J: Task<Out = u64>> Served<J> {
         let least = least_of(cores, recorded.cap(), recorded.burst());
         let seat = Seat::of(recorded, ends);
         Served {
-            linked: Linked { cores, least, seat },
+            seat,
+            cores,
+            least,
             ending: false,
             alone: false,
         }
@@ -106,16 +114,12 @@ impl<J: Task<Out = u64>> Served<J> {
         self.recorded().is_drained()
     }
 
-    /// Writes to the memory of all notes that there may be. Nothing is noted.
-    pub(crate) fn prefault(&mut self)
+    /// Writes to the memory of all notes that there may be, and makes what is still to be made of what the jobs of the core share. Nothing is noted.
+    pub(crate) fn begin(&mut self, local: &mut J::Local)
         ensures { self.new ≡ self.old }
     {
-        self.linked.seat.prefault();
-    }
-
-    /// Makes what is still to be made of what the jobs of the core share.
-    pub(crate) fn begin(&self, local: &mut J::Local) {
-        local.begin(CoreNo(self.linked.seat.actor().0));
+        self.seat.prefault();
+        local.begin(CoreNo(self.seat.actor().0));
     }
 
     /// Whether the worker is at its end.
@@ -125,61 +129,20 @@ impl<J: Task<Out = u64>> Served<J> {
         self.ending
     }
 
-    /// Whether the core closed by itself at its end. No clause says that it didn't where the answer is false.
-    pub(crate) fn closed_alone(&self) -> bool
-        ensures { TellsAlone result self.now.linked.recorded.journal.notes }
-    {
-        self.alone
-    }
-
-    /// The linked core.
-    pub(crate) fn into_linked(self) -> Linked<J>
-        ensures same { result.seat ≡ self.linked }
+    /// The core at its seat.
+    pub(crate) fn into_seat(self) -> Seat<J>
+        ensures same { result ≡ self.linked }
         ensures sound { IsServed J.meaning self }
     {
-        let Served { linked, .. } = self;
-        linked
+        let Served { seat, .. } = self;
+        seat
     }
 
     /// Whether fewer notes are free than a worker keeps for its end.
     fn is_short(&self) -> bool
         ensures { IsTrue result ↔ IsShort self.now.linked.recorded }
     {
-        self.recorded().journal().free() < self.linked.least
-    }
-
-    /// Whether fewer notes are free than two rounds may write, or half the places are used.
-    fn is_low(&self) -> bool
-        ensures { IsTrue result ↔ IsLow self.now.linked.recorded }
-    {
-        let free = self.recorded().journal().free() as usize;
-        free < 2 * (self.linked.least as usize) || free <= self.journal().kept_count()
-    }
-
-    /// Whether notes are due to be passed on before a round.
-    pub(crate) fn is_due(&self) -> bool
-        ensures { IsTrue result ↔ IsDue self.now }
-    {
-        !self.ending && self.is_low()
-    }
-
-    /// Whether notes are due to be passed on before a rest.
-    pub(crate) fn is_due_at_rest(&self) -> bool
-        ensures { IsTrue result ↔ IsDueAtRest self.now }
-    {
-        !self.ending && self.journal().kept_count() > 0
-    }
-
-    /// Hands all notes that are kept to the sink, if the worker isn't at its end.
-    pub(crate) fn hand_on<S: Sink>(&mut self, sink: &mut S)
-        requires going { self.old.ending ≡ false }
-        requires places { HasPlaces self.old.linked.recorded }
-        requires passed { S.has sink.old ≡ self.old.linked.recorded.journal.passed }
-        ensures hands { HandsOn S.has S.refused S.asks self.old.linked sink.old self.new.linked sink.new }
-        ensures marked { S.mark sink.new ≡ S.mark sink.old }
-        ensures going { self.new.ending ≡ false }
-    {
-        hand_on(&mut self.linked.seat, sink);
+        self.recorded().journal().free() < self.least
     }
 
     /// Looks at the room before a step: a journal that is short is at its end.
@@ -190,7 +153,7 @@ impl<J: Task<Out = u64>> Served<J> {
         ensures polls { NotesNoPoll self.old.linked.recorded.journal.notes self.new.linked.recorded.journal.notes }
     {
         if !self.ending && self.is_short() {
-            self.alone = end(&mut self.linked.seat, self.linked.cores);
+            self.alone = end(&mut self.seat, self.cores);
             self.ending = true;
         }
     }
@@ -198,20 +161,18 @@ impl<J: Task<Out = u64>> Served<J> {
     /// Delivers the next order of this sender, if one shows. Whether there was one.
     fn deliver_one(&mut self, sender: ActorNo) -> bool
         requires { sender ≤ self.old.linked.recorded.core.cores }
-        ensures steps { StepsServed self.old result self.new }
-        ensures few { WritesFew 2 self.old self.new }
+        ensures steps { StepsServed 2 self.old result self.new }
         ensures hears { self.new.ending ≡ self.old.ending → HearsOne sender self.old.linked result self.new.linked }
         ensures polls { NotesNoPoll self.old.linked.recorded.journal.notes self.new.linked.recorded.journal.notes }
     {
         self.look();
-        self.linked.seat.deliver(sender)
+        self.seat.deliver(sender)
     }
 
     /// Delivers at most as many orders of this sender as its link holds. Whether there was one.
     fn deliver_some(&mut self, sender: ActorNo) -> bool
         requires { sender ≤ self.old.linked.recorded.core.cores }
-        ensures steps { StepsServed self.old result self.new }
-        ensures few { WritesFew (2 * self.old.linked.recorded.cap) self.old self.new }
+        ensures steps { StepsServed (2 * self.old.linked.recorded.cap) self.old result self.new }
         ensures hears { HearsSome sender self.old self.new }
         ensures polls { NotesNoPoll self.old.linked.recorded.journal.notes self.new.linked.recorded.journal.notes }
     {
@@ -225,14 +186,13 @@ impl<J: Task<Out = u64>> Served<J> {
     }
 
     /// Delivers what shows of each sender. Whether there was anything.
-    pub(crate) fn deliver_all(&mut self) -> bool
-        ensures steps { StepsServed self.old result self.new }
-        ensures few { WritesFew ((self.old.linked.recorded.core.cores + 1) * (2 * self.old.linked.recorded.cap)) self.old self.new }
+    fn deliver_all(&mut self) -> bool
+        ensures steps { StepsServed ((self.old.linked.recorded.core.cores + 1) * (2 * self.old.linked.recorded.cap)) self.old result self.new }
         ensures hears { HearsFirst (self.old.linked.recorded.core.cores + 1) self.old self.new }
         ensures polls { NotesNoPoll self.old.linked.recorded.journal.notes self.new.linked.recorded.journal.notes }
     {
         let mut some = false;
-        for sender in 0..self.linked.cores as usize + 1 {
+        for sender in 0..self.cores as usize + 1 {
             if self.deliver_some(ActorNo(sender as u8)) {
                 some = true;
             }
@@ -243,8 +203,7 @@ impl<J: Task<Out = u64>> Served<J> {
     /// Collects what the link to this core shows. Whether there was anything. A worker at its end leaves it.
     fn collect_one(&mut self, core: CoreNo) -> bool
         requires { core < self.old.linked.recorded.core.cores }
-        ensures steps { StepsServed self.old result self.new }
-        ensures few { WritesFew self.old.linked.recorded.cap self.old self.new }
+        ensures steps { StepsServed self.old.linked.recorded.cap self.old result self.new }
         ensures collects { CollectsNext core self.old self.new }
         ensures polls { NotesNoPoll self.old.linked.recorded.journal.notes self.new.linked.recorded.journal.notes }
     {
@@ -252,18 +211,17 @@ impl<J: Task<Out = u64>> Served<J> {
         if self.ending {
             return false;
         }
-        self.linked.seat.collect_from(core) > 0
+        self.seat.collect_from(core) > 0
     }
 
     /// Collects what the links to all cores show. Whether there was anything.
-    pub(crate) fn collect_all(&mut self) -> bool
-        ensures steps { StepsServed self.old result self.new }
-        ensures few { WritesFew (self.old.linked.recorded.core.cores * self.old.linked.recorded.cap) self.old self.new }
+    fn collect_all(&mut self) -> bool
+        ensures steps { StepsServed (got_most self.old) self.old result self.new }
         ensures collects { CollectsFirst self.old.linked.recorded.core.cores self.new }
         ensures polls { NotesNoPoll self.old.linked.recorded.journal.notes self.new.linked.recorded.journal.notes }
     {
         let mut some = false;
-        for core in 0..self.linked.cores {
+        for core in 0..self.cores {
             if self.collect_one(CoreNo(core)) {
                 some = true;
             }
@@ -272,11 +230,11 @@ impl<J: Task<Out = u64>> Served<J> {
     }
 
     /// Whether a turn would poll a job or hand one back.
-    pub(crate) fn has_turn(&self) -> bool
+    fn has_turn(&self) -> bool
         ensures none { result ≡ false → HasNoTurn self.now.linked.recorded.journal.notes }
         ensures rightly { result ≡ true → HasNoTurn self.now.linked.recorded.journal.notes → ⊥ }
     {
-        match self.linked.seat.ahead() {
+        match self.seat.ahead() {
             Ok(Ahead::Job(_)) => true,
             Ok(Ahead::Back) => true,
             Ok(Ahead::Idle) => false,
@@ -285,12 +243,26 @@ impl<J: Task<Out = u64>> Served<J> {
         }
     }
 
+    /// Whether no turn is to be made and no link shows anything, behind a round in which nothing was done.
+    pub(crate) fn has_nothing(&self, was_idle: bool) -> bool
+        ensures idle { result ≡ true → was_idle ≡ true }
+        ensures no_turn { result ≡ true → HasNoTurn self.now.linked.recorded.journal.notes }
+    {
+        if !was_idle {
+            return false;
+        }
+        if self.has_turn() {
+            return false;
+        }
+        !self.seat.shows()
+    }
+
     /// The core beside its journal.
     pub(crate) fn recorded(&self) -> &Recorded<J>
         ensures recorded { result.now ≡ self.now.linked.recorded }
-        ensures sound { IsRecorded J.meaning self.now.linked.recorded }
+        ensures sound { IsRecorded J.meaning result.now }
     {
-        self.linked.seat.recorded()
+        self.seat.recorded()
     }
 
     /// The notes of this worker.
@@ -298,13 +270,12 @@ impl<J: Task<Out = u64>> Served<J> {
         ensures journal { result.now ≡ self.now.linked.recorded.journal }
         ensures sound { IsServed J.meaning self.now }
     {
-        self.linked.seat.recorded().journal()
+        self.seat.recorded().journal()
     }
 
     /// Shuts the open gates of a core that was closed. Whether there was one. In an open core nothing is done.
-    pub(crate) fn close_gates(&mut self) -> bool
-        ensures steps { StepsServed self.old result self.new }
-        ensures few { WritesFew (self.old.linked.recorded.core.cores + 1) self.old self.new }
+    fn close_gates(&mut self) -> bool
+        ensures steps { StepsServed (self.old.linked.recorded.core.cores + 1) self.old result self.new }
         ensures shuts { HasShutGates self.new.linked }
         ensures taken { self.new.ending ≡ self.old.ending → KeepsTaken self.old.linked self.new.linked }
         ensures polls { NotesNoPoll self.old.linked.recorded.journal.notes self.new.linked.recorded.journal.notes }
@@ -318,9 +289,10 @@ impl<J: Task<Out = u64>> Served<J> {
 
     /// The same, once the room was looked at. It stands apart, so that a round of an open core stays short.
     #[cold]
+    #[inline(never)]
     fn shut_if_closed(&mut self) -> bool
-        ensures steps { StepsServed self.old result self.new }
-        ensures few { WritesFew (self.old.linked.recorded.core.cores + 1) self.old self.new }
+        requires closed { IsSome (core_mode self.old.linked.recorded.journal.notes) }
+        ensures steps { StepsServed (self.old.linked.recorded.core.cores + 1) self.old result self.new }
         ensures shuts { HasShutGates self.new.linked }
         ensures taken { self.new.ending ≡ self.old.ending → KeepsTaken self.old.linked self.new.linked }
         ensures polls { NotesNoPoll self.old.linked.recorded.journal.notes self.new.linked.recorded.journal.notes }
@@ -330,10 +302,40 @@ impl<J: Task<Out = u64>> Served<J> {
         if self.ending {
             return false;
         }
-        if !self.is_closed() {
-            return false;
-        }
-        shut_gates(&mut self.linked.seat, self.linked.cores)
+        shut_gates(&mut self.seat, self.cores)
+    }
+
+    /// Shuts the gates of a closed core, and delivers what shows. Whether anything was done.
+    pub(crate) fn take_in(&mut self, bells: &mut Bells) -> bool
+        requires rung { AreRung self.old bells.old }
+        ensures steps { StepsServed (taken_most self.old) self.old result self.new }
+        ensures shuts { ShutsClosed self.old.linked self.new.linked }
+        ensures hears { HearsAll (self.old.linked.recorded.core.cores + 1) self.old self.new }
+        ensures sound { IsServed J.meaning self.new }
+        ensures polls { NotesNoPoll self.old.linked.recorded.journal.notes self.new.linked.recorded.journal.notes }
+        ensures rung { AreRung self.new bells.new }
+        ensures names { bells.new.names ≡ bells.old.names }
+    {
+        let before = self.journal().kept_count();
+        let shut = self.close_gates();
+        let delivered = self.deliver_all();
+        ring_since(bells, self.journal(), before);
+        shut | delivered
+    }
+
+    /// Collects what came back. Whether anything was done.
+    pub(crate) fn gather(&mut self, bells: &mut Bells) -> bool
+        requires rung { AreRung self.old bells.old }
+        ensures steps { StepsServed (got_most self.old) self.old result self.new }
+        ensures collects { CollectsFirst self.old.linked.recorded.core.cores self.new }
+        ensures polls { NotesNoPoll self.old.linked.recorded.journal.notes self.new.linked.recorded.journal.notes }
+        ensures rung { AreRung self.new bells.new }
+        ensures names { bells.new.names ≡ bells.old.names }
+    {
+        let before = self.journal().kept_count();
+        let collected = self.collect_all();
+        ring_since(bells, self.journal(), before);
+        collected
     }
 }
 
@@ -345,13 +347,18 @@ impl<J: Job + Task<Out = u64>> Served<J> {
         local: &mut J::Local,
         meter: &mut M,
         gate: &mut G,
+        bells: &mut Bells,
     ) -> bool
-        ensures steps { StepsServed self.old result self.new }
-        ensures few { TurnsFew self.old self.new }
+        requires rung { AreRung self.old bells.old }
+        ensures steps { StepsServed (turn_most self.old) self.old result self.new }
         ensures takes { TakesTurn J.meaning M.Tells G.Asked meter.old meter.new gate.old gate.new self.old result self.new }
-        ensures asks { AsksSince G.Asked self.old.linked.recorded.core.core self.old.linked.recorded.journal.notes self.new.linked.recorded.journal.notes gate.old gate.new }
+        ensures rung { AreRung self.new bells.new }
+        ensures names { bells.new.names ≡ bells.old.names }
     {
+        let before = self.journal().kept_count();
         self.look();
-        is_work(self.linked.seat.turn(local, meter, gate))
+        let made = self.seat.turn(local, meter, gate);
+        ring_since(bells, self.seat.recorded().journal(), before);
+        is_work(made)
     }
 }

@@ -6,6 +6,7 @@ ghost use Rattle.actor_core.specs.Recorded.{IsRecorded};
 ghost use Rattle.actor_core.specs.Stats.{AreExact, TellsCore, TellsQueues};
 ghost use Rattle.run_worker.specs.Shown.{IsShown, Shows, TellsAlone, shown_of};
 
+use crate::served::Served;
 use actor_core::{Recorded, are_exact, told_stats, told_stats_within};
 use arrayvec::ArrayVec;
 use base_jobs::Task;
@@ -74,24 +75,22 @@ fn show_many<J: Task<Out = u64>>(recorded: &Recorded<J>, alone: bool, publisher:
     show_told(recorded, alone, publisher, &core, queues.as_slice());
 }
 
-/// Publishes the numbers of a core and of its queues as they stand, and that it closed by itself if that is told, unless they can't be published
-/// any more.
-pub(crate) fn show_on<J: Task<Out = u64>>(
-    recorded: &Recorded<J>,
-    alone: bool,
-    publisher: &mut Publisher,
-)
-    requires sound { IsRecorded J.meaning recorded.now }
-    requires shown { IsShown recorded.now (shown_of publisher.old) }
-    requires alone { TellsAlone alone recorded.now.journal.notes }
-    ensures { Shows recorded.now.journal.notes (shown_of publisher.old) (shown_of publisher.new) }
-{
-    if publisher.is_spent() {
-        return;
-    }
-    if recorded.core().queue_count() <= FEW {
-        show_few(recorded, alone, publisher);
-    } else {
-        show_many(recorded, alone, publisher);
+impl<J: Task<Out = u64>> Served<J> {
+    /// Publishes the numbers of the core and of its queues as they stand, and that it closed by itself if it did, unless they can't be published
+    /// any more.
+    pub(crate) fn show_on(&self, publisher: &mut Publisher)
+        requires shown { IsShown self.now.linked.recorded (shown_of publisher.old) }
+        ensures { Shows self.now.linked.recorded.journal.notes (shown_of publisher.old) (shown_of publisher.new) }
+    {
+        if publisher.is_spent() {
+            return;
+        }
+        let alone = self.alone;
+        let recorded = self.recorded();
+        if recorded.core().queue_count() <= FEW {
+            show_few(recorded, alone, publisher);
+        } else {
+            show_many(recorded, alone, publisher);
+        }
     }
 }

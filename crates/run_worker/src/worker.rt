@@ -11,21 +11,20 @@
 //! In this order, each time (`serve`): publish if it is time, pass on if the journal is low, one round. If that was idle often enough:
 //! publish, pass on, rest.
 
-ghost use Rattle.std.specs.Prelude.{◌≡◌, false};
+ghost use Rattle.std.specs.Prelude.{◌≡◌, false, if◌then◌else◌};
 ghost use Rattle.base_words.specs.Closing.{IsDrained};
 ghost use Rattle.run_worker.specs.Asks.{AsksSince};
 ghost use Rattle.run_worker.specs.Rounds.{AreRung};
-ghost use Rattle.actor_seat.specs.Linked.{RunsOn};
 ghost use Rattle.run_worker.specs.Shown.{IsShown, Shows, shown_of};
 ghost use Rattle.run_worker.specs.Passing.{HandsOn, HandsOnWhere, IsDue, IsDueAtRest, IsSupplied, PassesTo};
-ghost use Rattle.run_worker.specs.Serves.{GoesOn, Rests, Serves, ServesOnce, ServesToItsEnd, ShowsAgain, ShowsEnd, ShowsNow};
+ghost use Rattle.run_worker.specs.Serves.{CountsIdle, GoesOn, Rests, Serves, ServesToItsEnd, ShowsAgain, ShowsEnd, ShowsNow};
 ghost use Rattle.run_worker.specs.Workers.{HasNotBegun, IsBellOf, KeepsOn, served_of};
 
 use crate::ended::Ended;
-use crate::linked::hand_on;
+use crate::passing::hand_on;
 use crate::rounds::Rounds;
 use crate::served::Served;
-use crate::showing::{SHOWN_EACH, show_on};
+use crate::showing::SHOWN_EACH;
 use actor_seat::{Bells, OwnBell};
 use base_jobs::{Job, Task};
 use note_journal::{Sink, Whole};
@@ -37,6 +36,26 @@ use std::sync::Wait;
 
 /// How many rounds in which nothing was done a worker makes before it parks.
 const TRIES: u32 = 1024;
+
+/// Whether the next round is made at once, and how many rounds in a row nothing was done, behind one more in which something was done or nothing.
+fn count_idle(tries: u32, some: bool, idle: u32) -> (bool, u32)
+    ensures { CountsIdle tries some idle result.0 result.1 }
+{
+    if some {
+        return (true, 0);
+    }
+    if idle < tries {
+        return (true, idle + 1);
+    }
+    (false, idle)
+}
+
+/// How many rounds in a row nothing was done behind a look before a rest: it counts anew where that found something.
+fn idle_behind(found: bool, idle: u32) -> u32
+    ensures { result ≡ (if found then 0 else idle) }
+{
+    if found { 0 } else { idle }
+}
 
 /// A core beside its journal, over its actor's ends of the links, with a clock and a gate of its own. It rang the bell of each core for each
 /// of its notes that is for that core, and it parks on the bell of its own core. It passes on its notes to its sink, between rounds and rests, and publishes its numbers on its board.
@@ -142,9 +161,8 @@ impl<J: Task<Out = u64>, C: Drop, G: Drop, S: Sink> Worker<J, C, G, S> {
 
     /// Hands what is kept to the sink, where the journal is low and the worker isn't at its end.
     fn hand_on_if_low(&mut self)
-        ensures hands { HandsOnWhere S.has S.refused S.asks (IsDue (served_of self.old)) self.old self.new }
+        ensures hands { HandsOnWhere S.Sink (IsDue (served_of self.old)) self.old self.new }
         ensures supplied { IsSupplied S.has S.refused (served_of self.new) self.new.sink }
-        ensures marked { S.mark self.new.sink ≡ S.mark self.old.sink }
     {
         if self.rounds.served.is_due() {
             self.rounds.served.hand_on(&mut self.sink);
@@ -153,9 +171,8 @@ impl<J: Task<Out = u64>, C: Drop, G: Drop, S: Sink> Worker<J, C, G, S> {
 
     /// Hands what is kept to the sink, unless that is nothing or the worker is at its end.
     fn hand_on_if_kept(&mut self)
-        ensures hands { HandsOnWhere S.has S.refused S.asks (IsDueAtRest (served_of self.old)) self.old self.new }
+        ensures hands { HandsOnWhere S.Sink (IsDueAtRest (served_of self.old)) self.old self.new }
         ensures supplied { IsSupplied S.has S.refused (served_of self.new) self.new.sink }
-        ensures marked { S.mark self.new.sink ≡ S.mark self.old.sink }
     {
         if self.rounds.served.is_due_at_rest() {
             self.rounds.served.hand_on(&mut self.sink);
@@ -166,8 +183,7 @@ impl<J: Task<Out = u64>, C: Drop, G: Drop, S: Sink> Worker<J, C, G, S> {
     fn show(&mut self)
         ensures { ShowsNow self.old self.new }
     {
-        let alone = self.rounds.served.closed_alone();
-        show_on(self.rounds.served.recorded(), alone, &mut self.publisher);
+        self.rounds.served.show_on(&mut self.publisher);
         self.since = 0;
     }
 
@@ -182,13 +198,6 @@ impl<J: Task<Out = u64>, C: Drop, G: Drop, S: Sink> Worker<J, C, G, S> {
         }
     }
 
-    /// Whether the worker is at its end.
-    fn is_ending(&self) -> bool
-        ensures { result ≡ self.now.ending }
-    {
-        self.rounds.served.is_ending()
-    }
-
     /// Publishes where the worker is at its end, and wasn't before.
     fn show_end(&mut self, was: bool)
         ensures { ShowsEnd was self.old self.new }
@@ -196,7 +205,7 @@ impl<J: Task<Out = u64>, C: Drop, G: Drop, S: Sink> Worker<J, C, G, S> {
         if was {
             return;
         }
-        if self.is_ending() {
+        if self.rounds.served.is_ending() {
             self.show();
         }
     }
@@ -204,8 +213,7 @@ impl<J: Task<Out = u64>, C: Drop, G: Drop, S: Sink> Worker<J, C, G, S> {
     /// What a worker of a drained core leaves. Its numbers are published for the last time, and what is still kept is handed to the sink.
     fn into_ended(self) -> Ended<J, S>
         requires { IsDrained self.linked.recorded.core.cores self.linked.recorded.journal.notes }
-        ensures hands { HandsOn S.has S.refused S.asks self.linked self.sink result.linked result.sink }
-        ensures marked { S.mark result.sink ≡ S.mark self.sink }
+        ensures hands { HandsOn S.Sink self.linked self.sink result.linked result.sink }
         ensures shows { Shows self.linked.recorded.journal.notes self.shown result.shown }
     {
         let Worker {
@@ -215,78 +223,54 @@ impl<J: Task<Out = u64>, C: Drop, G: Drop, S: Sink> Worker<J, C, G, S> {
             publisher,
             ..
         } = self;
+        let Rounds { served, .. } = rounds;
         let (mut sink, mut publisher) = (sink, publisher);
-        let alone = rounds.served.closed_alone();
-        show_on(rounds.served.recorded(), alone, &mut publisher);
-        let mut linked = rounds.into_linked();
-        hand_on(&mut linked.seat, &mut sink);
-        Ended::of(linked, sink, local, publisher)
+        served.show_on(&mut publisher);
+        let mut seat = served.into_seat();
+        hand_on(&mut seat, &mut sink);
+        Ended::of(seat, sink, local, publisher)
     }
 }
 
 impl<J: Job + Task<Out = u64>, C: Clock + Drop, G: Gate + Drop, S: Sink> Worker<J, C, G, S> {
-    /// Passes on what is kept, lies down, looks once more, and parks until its bell rings if there was nothing. Whether it slept.
+    /// Passes on what is kept, lies down, looks once more, and parks until its bell rings if there was nothing. Whether there was something.
     fn rests<R: Wait>(&mut self, rt: &R) -> bool
-        ensures rests { Rests J.meaning C.Reads G.Asked S.Sink self.old result self.new }
-        ensures runs { RunsOn self.old.linked self.new.linked }
-        ensures asks { AsksSince G.Asked self.old.linked.recorded.core.core self.old.linked.recorded.journal.notes self.new.linked.recorded.journal.notes self.old.gate self.new.gate }
-        ensures marked { S.mark self.new.sink ≡ S.mark self.old.sink }
+        ensures { Rests J.meaning C.Reads G.Asked S.Sink self.old result self.new }
     {
         self.hand_on_if_kept();
-        match self.own.rest(rt, &mut self.rounds, &mut self.local) {
-            Some(_) => true,
-            None => {
-                self.idle = 0;
-                false
-            }
-        }
+        let found = self
+            .own
+            .rest(rt, &mut self.rounds, &mut self.local)
+            .is_none();
+        let idle = idle_behind(found, self.idle);
+        self.idle = idle;
+        found
     }
 
     /// Passes on what is kept if the journal is low, and makes one round. Whether the next one is made at once: unless nothing was to be done in
     /// it and in so many rounds before it.
     fn goes_on(&mut self) -> bool
-        ensures goes { GoesOn J.meaning C.Reads G.Asked S.Sink self.old result self.new }
-        ensures runs { RunsOn self.old.linked self.new.linked }
-        ensures asks { AsksSince G.Asked self.old.linked.recorded.core.core self.old.linked.recorded.journal.notes self.new.linked.recorded.journal.notes self.old.gate self.new.gate }
-        ensures marked { S.mark self.new.sink ≡ S.mark self.old.sink }
+        ensures { GoesOn J.meaning C.Reads G.Asked S.Sink self.old result self.new }
     {
         self.hand_on_if_low();
-        let was_idle = self.idle > 0;
-        if self.rounds.round(was_idle, &mut self.local) {
-            self.idle = 0;
-            return true;
-        }
-        if self.idle < self.tries {
-            self.idle += 1;
-            return true;
-        }
-        false
+        let some = self.rounds.round(self.idle > 0, &mut self.local);
+        let (again, idle) = count_idle(self.tries, some, self.idle);
+        self.idle = idle;
+        again
     }
 
-    /// Makes one round. If the next one isn't made at once, it publishes and rests.
-    fn serve_once<R: Wait>(&mut self, rt: &R)
-        ensures serves { ServesOnce J.meaning C.Reads G.Asked S.Sink self.old self.new }
-        ensures runs { RunsOn self.old.linked self.new.linked }
-        ensures asks { AsksSince G.Asked self.old.linked.recorded.core.core self.old.linked.recorded.journal.notes self.new.linked.recorded.journal.notes self.old.gate self.new.gate }
-        ensures marked { S.mark self.new.sink ≡ S.mark self.old.sink }
+    /// Publishes if it is time, makes one round, and publishes and rests if the next one isn't made at once. If the worker came to its end, it
+    /// publishes at once.
+    fn serve<R: Wait>(&mut self, rt: &R)
+        ensures { Serves J.meaning C.Reads G.Asked S.Sink self.old self.new }
     {
+        self.show_again();
+        let was = self.rounds.served.is_ending();
         if !self.goes_on() {
             // Before it lies down, so that an idle core's board is complete.
             self.show();
             self.rests(rt);
         }
-    }
-
-    /// Publishes if it is time, makes one round, and rests if the next one isn't made at once. If the worker came to its end, it publishes at once.
-    fn serve<R: Wait>(&mut self, rt: &R)
-        ensures serves { Serves J.meaning C.Reads G.Asked S.Sink self.old self.new }
-        ensures runs { RunsOn self.old.linked self.new.linked }
-        ensures asks { AsksSince G.Asked self.old.linked.recorded.core.core self.old.linked.recorded.journal.notes self.new.linked.recorded.journal.notes self.old.gate self.new.gate }
-        ensures marked { S.mark self.new.sink ≡ S.mark self.old.sink }
-    {
-        self.show_again();
-        let was = self.is_ending();
-        self.serve_once(rt);
         self.show_end(was);
     }
 }
@@ -305,9 +289,7 @@ impl<J: Job + Task<Out = u64>, C: Clock + Drop, G: Gate + Drop, S: Sink> Work
         ensures asks { (gate : G) × AsksSince G.Asked self.linked.recorded.core.core self.linked.recorded.journal.notes result.linked.recorded.journal.notes self.gate gate }
     {
         let mut worker = self;
-        // On the thread that writes the notes, so that their pages come from memory that is near to it.
-        worker.rounds.served.prefault();
-        // On the thread that polls the jobs, and before each of their polls.
+        // On the thread that writes the notes, so that their pages come from memory that is near to it, and that polls the jobs.
         worker.rounds.served.begin(&mut worker.local);
         for _ in rt.forever() {
             if worker.rounds.served.is_drained() {

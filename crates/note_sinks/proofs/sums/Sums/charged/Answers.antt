@@ -10,4 +10,4 @@ use Rattle.note_sinks.proofs.sums.Sums.charged.Goals as goal
 pub returns : goal.returns
 returns c =
     subst (λ (view : SumsView). (terms : Terms) → EachNote (MayStand terms) view.has → length view.has < 2 ^ 64 → c.charged.result ≡ charges view.burst c.args.queue view.has) c.self.view_is
-    (λ terms lawful short. c.charged.ensures c.self.inside.burst _ (known_of_sums c.self.inside.burst _ _ _ _ c.self.invariant c.deref.ensures terms lawful short))
+    (λ terms lawful short. c.charged.ensures c.self.inside.burst _ (known_of_sums c.self.inside.burst _ _ _ _ _ c.self.invariant c.deref.ensures c.figures.ensures terms lawful short))

@@ -14,11 +14,11 @@ returns-clause-core c =
     subst
     (λ (view : SumsView). (terms : Terms) → EachNote (MayStand terms) view.has → length view.has < 2 ^ 64 → c.core_stats.result ≡ spec.core_stats c.core_stats.result.drained view.has)
     c.self.view_is
-    (λ terms lawful short. c.core_stats.ensures.core c.self.inside.burst _ (known_of_sums c.self.inside.burst _ _ _ _ c.self.invariant c.deref.ensures terms lawful short))
+    (λ terms lawful short. c.core_stats.ensures.core c.self.inside.burst _ (known_of_sums c.self.inside.burst _ _ _ _ _ c.self.invariant c.deref.ensures c.figures.ensures terms lawful short))
 
 pub returns-clause-drained : goal.returns-clause-drained
 returns-clause-drained c =
     subst
     (λ (view : SumsView). (terms : Terms) → EachNote (MayStand terms) view.has → length view.has < 2 ^ 64 → IsTrue c.core_stats.result.drained ↔ IsDrained c.args.cores view.has)
     c.self.view_is
-    (λ terms lawful short. c.core_stats.ensures.drained c.self.inside.burst _ (known_of_sums c.self.inside.burst _ _ _ _ c.self.invariant c.deref.ensures terms lawful short))
+    (λ terms lawful short. c.core_stats.ensures.drained c.self.inside.burst _ (known_of_sums c.self.inside.burst _ _ _ _ _ c.self.invariant c.deref.ensures c.figures.ensures terms lawful short))

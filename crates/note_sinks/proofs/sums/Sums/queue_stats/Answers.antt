@@ -12,4 +12,4 @@ returns c =
     subst
     (λ (view : SumsView). (terms : Terms) → EachNote (MayStand terms) view.has → length view.has < 2 ^ 64 → c.queue_stats.result ≡ spec.queue_stats view.burst c.args.queue view.has)
     c.self.view_is
-    (λ terms lawful short. c.queue_stats.ensures c.self.inside.burst _ (known_of_sums c.self.inside.burst _ _ _ _ c.self.invariant c.deref.ensures terms lawful short))
+    (λ terms lawful short. c.queue_stats.ensures c.self.inside.burst _ (known_of_sums c.self.inside.burst _ _ _ _ _ c.self.invariant c.deref.ensures c.figures.ensures terms lawful short))

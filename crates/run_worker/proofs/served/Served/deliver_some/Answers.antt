@@ -1,6 +1,5 @@
 use Rattle.run_worker.proofs.Names.{ap, arith, HearsOne, lt-ltb, nat_lt, refl, StepsServed, subst, sym, ◌*◌, ◌+◌, ◌∙◌, ◌≡◌}
 use Rattle.run_worker.proofs.Telling.{steps_none, steps_found, steps_same}
-use Rattle.run_worker.proofs.Fewer.{few_none, few_along, few_more}
 use Rattle.run_worker.proofs.Heard.{none_heard, one_more_heard, none_left, all_heard}
 use Rattle.run_worker.proofs.served.Served.deliver_some.Goals as goal
 
@@ -9,8 +8,7 @@ deliver_one-requires g c = omega (arith, c.requires, c.loop-count.invariant.step
 
 pub loop-count-init : goal.loop-count-init
 loop-count-init g c = record {
-  steps = steps_none c.args.self.now;
-  few = few_none 0 c.args.self.now;
+  steps = steps_none 0 c.args.self.now;
   many = none_heard c.args.sender c.args.self.now;
   cap_is = c.cap-cap.ensures.cap ∙ ap (λ recorded. recorded.cap) c.recorded.ensures.recorded;
   polls = refl;
@@ -18,8 +16,9 @@ loop-count-init g c = record {
 
 pub returns-then-not-deliver_one-clause-steps : goal.returns-then-not-deliver_one-clause-steps
 returns-then-not-deliver_one-clause-steps g c =
-    steps_same (nat_lt 0 c.loop-count.count) c.args.self.now c.loop-count.self c.deliver_one.new.self c.loop-count.invariant.steps
-    (subst (λ found. StepsServed c.loop-count.self found c.deliver_one.new.self) c.if-not-deliver_one.true c.deliver_one.ensures.steps)
+    steps_same (2 * c.loop-count.count) 2 (2 * c.args.self.now.linked.recorded.cap) (nat_lt 0 c.loop-count.count) c.args.self.now c.loop-count.self c.deliver_one.new.self
+    (omega (arith, c.loop-count-test.true, c.loop-count.invariant.cap_is)) c.loop-count.invariant.steps
+    (subst (λ found. StepsServed 2 c.loop-count.self found c.deliver_one.new.self) c.if-not-deliver_one.true c.deliver_one.ensures.steps)
 
 pub returns-then-not-deliver_one-clause-hears : goal.returns-then-not-deliver_one-clause-hears
 returns-then-not-deliver_one-clause-hears g c =
@@ -29,12 +28,9 @@ returns-then-not-deliver_one-clause-hears g c =
 pub loop-count-preserved : goal.loop-count-preserved
 loop-count-preserved g c = record {
   steps =
-      subst (λ some. StepsServed c.args.self.now some c.deliver_one.new.self) (sym (lt-ltb 0 (c.loop-count.count + 1) (omega arith)))
-      (steps_found (nat_lt 0 c.loop-count.count) c.args.self.now c.loop-count.self c.deliver_one.new.self c.loop-count.invariant.steps
-      (subst (λ found. StepsServed c.loop-count.self found c.deliver_one.new.self) c.if-not-deliver_one.false c.deliver_one.ensures.steps));
-  few =
-      few_along (2 * c.loop-count.count) 2 (2 * (c.loop-count.count + 1)) _ _ c.args.self.now c.loop-count.self c.deliver_one.new.self c.loop-count.invariant.steps c.deliver_one.ensures.steps c.loop-count.invariant.few c.deliver_one.ensures.few
-      (omega arith);
+      subst (λ some. StepsServed (2 * (c.loop-count.count + 1)) c.args.self.now some c.deliver_one.new.self) (sym (lt-ltb 0 (c.loop-count.count + 1) (omega arith)))
+      (steps_found (2 * c.loop-count.count) 2 _ (nat_lt 0 c.loop-count.count) c.args.self.now c.loop-count.self c.deliver_one.new.self (omega arith) c.loop-count.invariant.steps
+      (subst (λ found. StepsServed 2 c.loop-count.self found c.deliver_one.new.self) c.if-not-deliver_one.false c.deliver_one.ensures.steps));
   many =
       one_more_heard c.args.sender c.loop-count.count c.args.self.now c.loop-count.self c.deliver_one.new.self c.loop-count.invariant.steps.ended c.deliver_one.ensures.steps.ended c.loop-count.invariant.many
       (λ same. subst (λ found. HearsOne c.args.sender c.loop-count.self.linked found c.deliver_one.new.self.linked) c.if-not-deliver_one.false (c.deliver_one.ensures.hears same));
@@ -45,7 +41,8 @@ loop-count-preserved g c = record {
 pub returns-clause-steps : goal.returns-clause-steps
 returns-clause-steps g c =
     let all : c.loop-count.count ≡ c.cap-cap.result = omega (arith, c.loop-count.auto, c.loop-count-test.false) in
-    subst (λ count. StepsServed c.args.self.now (nat_lt 0 count) c.loop-count.self) all c.loop-count.invariant.steps
+    subst (λ most. StepsServed (2 * most) c.args.self.now (nat_lt 0 c.cap-cap.result) c.loop-count.self) c.loop-count.invariant.cap_is
+    (subst (λ count. StepsServed (2 * count) c.args.self.now (nat_lt 0 count) c.loop-count.self) all c.loop-count.invariant.steps)
 
 pub returns-clause-hears : goal.returns-clause-hears
 returns-clause-hears g c =
@@ -54,12 +51,3 @@ returns-clause-hears g c =
 
 pub returns-then-not-deliver_one-clause-polls : goal.returns-then-not-deliver_one-clause-polls
 returns-then-not-deliver_one-clause-polls g c = c.deliver_one.ensures.polls ∙ c.loop-count.invariant.polls
-
-pub returns-then-not-deliver_one-clause-few : goal.returns-then-not-deliver_one-clause-few
-returns-then-not-deliver_one-clause-few g c =
-    few_along (2 * c.loop-count.count) 2 (2 * c.args.self.now.linked.recorded.cap) _ _ c.args.self.now c.loop-count.self c.deliver_one.new.self c.loop-count.invariant.steps c.deliver_one.ensures.steps c.loop-count.invariant.few
-    c.deliver_one.ensures.few (omega (arith, c.loop-count-test.true, c.loop-count.invariant.cap_is))
-
-pub returns-clause-few : goal.returns-clause-few
-returns-clause-few g c =
-    few_more (2 * c.loop-count.count) (2 * c.args.self.now.linked.recorded.cap) c.args.self.now c.loop-count.self (omega (arith, c.loop-count.auto, c.loop-count.invariant.cap_is)) c.loop-count.invariant.few

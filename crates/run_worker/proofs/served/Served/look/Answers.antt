@@ -11,7 +11,9 @@ invariant_of-self g c = (
     provided = c.end-self-inside.ensures.ending;
     acts = c.end-self-inside.ensures.acts;
   },
-  c.end-self-inside.ensures.alone,
-  c.self.invariant.2 ∙ sym c.end-self-inside.ensures.stays.seat.cores,
-  c.self.invariant.3 ∙ sym (least_along _ _ c.end-self-inside.ensures.stays.seat),
+  record {
+    cores_are = c.self.invariant.1.cores_are ∙ sym c.end-self-inside.ensures.stays.seat.cores;
+    least_is = c.self.invariant.1.least_is ∙ sym (least_along _ _ c.end-self-inside.ensures.stays.seat);
+    tells = c.end-self-inside.ensures.alone;
+  },
 )

@@ -1,22 +1,20 @@
-use Rattle.run_worker.proofs.Names.{ActsAsItMay, ap, arith, core_mode, false≢true, in_at, is_some, IsReady, IsServed, polls_of, subst, sym, ◌+◌, ◌∙◌, ◌≡◌}
-use Rattle.run_worker.proofs.Alone.{alone_grows}
+use Rattle.run_worker.proofs.Names.{ActsAsItMay, ap, arith, core_mode, in_at, IsReady, IsServed, IsSome, polls_of, subst, sym, ◌+◌, ◌∙◌, ◌≡◌}
+use Rattle.run_worker.proofs.Alone.{knows_along}
 use Rattle.run_worker.proofs.Between.{between_behind}
-use Rattle.run_worker.proofs.Fewer.{looked_few, looked_none}
+use Rattle.run_worker.proofs.Looked.{still_closed}
 use Rattle.run_worker.proofs.Serving.{shuts_served}
-use Rattle.run_worker.proofs.Spare.{least_along, places_more}
+use Rattle.run_worker.proofs.Spare.{places_more}
 use Rattle.run_worker.proofs.Telling.{looked_alone, looked_steps}
 use Rattle.run_worker.proofs.served.Served.shut_if_closed.Goals as goal
 
 pub invariant_of-self : goal.invariant_of-self
 invariant_of-self g c = (
   subst (λ ending. IsServed g.J.Task.meaning (record { linked = c.shut_gates.new.seat; ending = ending })) (sym c.if-self.false)
-      (shuts_served c.self.inside.linked.seat c.shut_gates.new.seat c.shut_gates.ensures.linked
+      (shuts_served c.self.inside.seat c.shut_gates.new.seat c.shut_gates.ensures.linked
       (between_behind _ _ c.shut_gates.ensures.shuts.stays c.shut_gates.ensures.shuts.polls c.self.invariant.0.between) c.shut_gates.ensures.shuts
-      (subst (λ ending. IsReady ending c.self.inside.linked.seat.recorded) c.if-self.false (subst (λ view. IsReady view.ending view.linked.recorded) (sym c.self.view_is) c.look.ensures.ready))
-      (subst (λ ending. ActsAsItMay ending c.self.inside.linked.seat.recorded) c.if-self.false c.self.invariant.0.acts)),
-  alone_grows c.self.inside.alone c.self.inside.linked.seat.recorded.journal.notes c.shut_gates.new.seat.recorded.journal.notes c.shut_gates.ensures.shuts.stays.grows c.self.invariant.1,
-  c.self.invariant.2 ∙ sym c.shut_gates.ensures.shuts.stays.seat.cores,
-  c.self.invariant.3 ∙ sym (least_along _ _ c.shut_gates.ensures.shuts.stays.seat),
+      (subst (λ ending. IsReady ending c.self.inside.seat.recorded) c.if-self.false (subst (λ view. IsReady view.ending view.linked.recorded) (sym c.self.view_is) c.look.ensures.ready))
+      (subst (λ ending. ActsAsItMay ending c.self.inside.seat.recorded) c.if-self.false c.self.invariant.0.acts)),
+  knows_along c.self.inside.cores c.self.inside.least c.self.inside.alone c.self.inside.seat c.shut_gates.new.seat c.shut_gates.ensures.shuts.stays c.self.invariant.1,
 )
 
 pub returns-clause-shuts : goal.returns-clause-shuts
@@ -25,11 +23,8 @@ returns-clause-shuts g c = λ some sender known. (c.shut_gates.ensures.shuts.shu
 pub returns-clause-polls : goal.returns-clause-polls
 returns-clause-polls g c = c.shut_gates.ensures.shuts.polls ∙ (ap (λ view. polls_of view.linked.recorded.journal.notes) c.self.view_is ∙ c.look.ensures.polls)
 
-pub returns-then-self-clause-few : goal.returns-then-self-clause-few
-returns-then-self-clause-few g c = looked_none _ c.args.self.now c.look.new.self c.look.ensures.looks
-
 pub returns-then-self-clause-steps : goal.returns-then-self-clause-steps
-returns-then-self-clause-steps g c = looked_alone c.args.self.now c.look.new.self c.look.ensures.looks c.look.ensures.stays
+returns-then-self-clause-steps g c = looked_alone _ c.args.self.now c.look.new.self c.look.ensures.looks c.look.ensures.stays
 
 -- at its end each gate is shut
 pub returns-then-self-clause-shuts : goal.returns-then-self-clause-shuts
@@ -42,41 +37,21 @@ returns-then-self-clause-taken g c = λ same sender. ap (λ view. (in_at sender 
 pub returns-then-self-clause-polls : goal.returns-then-self-clause-polls
 returns-then-self-clause-polls g c = c.look.ensures.polls
 
-pub returns-then-not-is_closed-clause-steps : goal.returns-then-not-is_closed-clause-steps
-returns-then-not-is_closed-clause-steps g c = looked_alone c.args.self.now c.look.new.self c.look.ensures.looks c.look.ensures.stays
-
-pub returns-then-not-is_closed-clause-few : goal.returns-then-not-is_closed-clause-few
-returns-then-not-is_closed-clause-few g c = looked_none _ c.args.self.now c.look.new.self c.look.ensures.looks
-
-pub returns-then-not-is_closed-clause-shuts : goal.returns-then-not-is_closed-clause-shuts
-returns-then-not-is_closed-clause-shuts g c = λ some sender known.
-    absurd (false≢true (sym c.if-not-is_closed.true ∙ (c.is_closed.ensures ∙ some)))
-
-pub returns-then-not-is_closed-clause-taken : goal.returns-then-not-is_closed-clause-taken
-returns-then-not-is_closed-clause-taken g c = λ same sender. ap (λ view. (in_at sender view.linked.ends).inward.taken) (c.look.ensures.looks.same same)
-
-pub returns-then-not-is_closed-clause-polls : goal.returns-then-not-is_closed-clause-polls
-returns-then-not-is_closed-clause-polls g c = c.look.ensures.polls
-
 pub shut_gates-requires-clause-closed : goal.shut_gates-requires-clause-closed
 shut_gates-requires-clause-closed g c =
-    ap (λ view. is_some (core_mode view.linked.recorded.journal.notes)) c.self.view_is ∙ (sym c.is_closed.ensures ∙ c.if-not-is_closed.false)
+    subst (λ view. IsSome (core_mode view.linked.recorded.journal.notes)) (sym c.self.view_is)
+    (still_closed c.args.self.now.linked.recorded.journal.notes c.look.new.self.linked.recorded.journal.notes c.look.ensures.stays.grows c.requires.closed)
 
 pub shut_gates-requires-clause-room : goal.shut_gates-requires-clause-room
 shut_gates-requires-clause-room g c =
-    let ready = subst (λ ending. IsReady ending c.self.inside.linked.seat.recorded) c.if-self.false (subst (λ view. IsReady view.ending view.linked.recorded) (sym c.self.view_is) c.look.ensures.ready) in
-    omega (arith, ready, places_more c.self.inside.linked.seat.recorded.core.cores c.self.inside.linked.seat.recorded.cap)
+    let ready = subst (λ ending. IsReady ending c.self.inside.seat.recorded) c.if-self.false (subst (λ view. IsReady view.ending view.linked.recorded) (sym c.self.view_is) c.look.ensures.ready) in
+    omega (arith, ready, places_more c.self.inside.seat.recorded.core.cores c.self.inside.seat.recorded.cap)
 
 pub returns-clause-steps : goal.returns-clause-steps
 returns-clause-steps g c =
-    looked_steps c.args.self.now c.look.new.self (record { linked = c.self.inside.linked.seat; ending = c.self.inside.ending }) c.shut_gates.new.seat c.shut_gates.result c.self.view_is c.look.ensures.looks c.look.ensures.stays
-    c.shut_gates.ensures.shuts.stays c.shut_gates.ensures.tells
-
-pub returns-clause-few : goal.returns-clause-few
-returns-clause-few g c =
-    let cores : c.self.inside.linked.seat.recorded.core.cores ≡ c.args.self.now.linked.recorded.core.cores = ap (λ view. view.linked.recorded.core.cores) c.self.view_is ∙ c.look.ensures.stays.seat.cores in
-    looked_few (c.args.self.now.linked.recorded.core.cores + 1) c.args.self.now c.look.new.self (record { linked = c.self.inside.linked.seat; ending = c.self.inside.ending }) c.shut_gates.new.seat c.self.view_is c.look.ensures.looks
-    (omega (arith, c.shut_gates.ensures.shuts.longer, cores))
+    let cores : c.self.inside.seat.recorded.core.cores ≡ c.args.self.now.linked.recorded.core.cores = ap (λ view. view.linked.recorded.core.cores) c.self.view_is ∙ c.look.ensures.stays.seat.cores in
+    looked_steps (c.args.self.now.linked.recorded.core.cores + 1) c.args.self.now c.look.new.self (record { linked = c.self.inside.seat; ending = c.self.inside.ending }) c.shut_gates.new.seat c.shut_gates.result c.self.view_is
+    c.look.ensures.looks c.look.ensures.stays c.shut_gates.ensures.shuts.stays c.shut_gates.ensures.tells (omega (arith, c.shut_gates.ensures.shuts.longer, cores))
 
 pub returns-clause-taken : goal.returns-clause-taken
 returns-clause-taken g c = λ same sender.

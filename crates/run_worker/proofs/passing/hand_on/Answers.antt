@@ -1,9 +1,9 @@
 use Rattle.run_worker.proofs.Names.{ap, same_notes}
 use Rattle.run_worker.proofs.Between.{between_notes}
-use Rattle.run_worker.proofs.linked.hand_on.Goals as goal
+use Rattle.run_worker.proofs.passing.hand_on.Goals as goal
 
 pub returns-clause-hands : goal.returns-clause-hands
-returns-clause-hands g c = record { answer = c.pass_on-answer.result; passes = c.pass_on-answer.ensures.passes; refusals = c.pass_on-answer.ensures.refusals; asked = c.pass_on-answer.ensures.asked; rest = c.pass_on-answer.ensures.rest }
+returns-clause-hands g c = record { answer = c.pass_on-answer.result; passes = c.pass_on-answer.ensures.passes; refusals = c.pass_on-answer.ensures.refusals; asked = c.pass_on-answer.ensures.asked; marked = c.pass_on-answer.ensures.marked; rest = c.pass_on-answer.ensures.rest }
 
 pub returns-clause-linked : goal.returns-clause-linked
 returns-clause-linked g c = c.pass_on-answer.ensures.linked c.requires.linked
