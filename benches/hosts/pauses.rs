@@ -8,8 +8,10 @@
 // By turns with some 100,000 turns, and for as long as they took, a loop reads the counter and does nothing else: what it misses the machine took away.
 //
 // Each line: a call; how many there were; the middle microseconds of all; how many took more than 50 us; of these, how many in which the processor ran this
-// thread for less than 50 us; the longest; and the longest time in which the processor ran this thread, of one call. Of the longest: the nanoseconds in which
-// the thread didn't run, and the switches (asked and not) and the faults of memory since the last look, which comes each 1000 turns.
+// thread for less than 50 us; the longest; the longest time in which the processor ran this thread, of one call; and the longest of those calls behind
+// whose last look, which comes each 1000 turns, the system ran no other thread. Of the longest: the microseconds in which the thread didn't run, and the
+// switches (asked and not) and the faults of memory since that look. The last line has the longest call of the library of the kind before, and how many of
+// these took more than 50 us; what the control has more of, the machine took away from under the system.
 use fairexec::linked::{Config, Form, House, Journal, Opened, Step, Turn};
 use fairexec::Error;
 use std::arch::x86_64::_rdtsc;
@@ -135,6 +137,22 @@ impl All {
         });
     }
 
+    /// The longest of the calls behind whose last look the system ran no other thread, and how many of them were long.
+    fn alone(&self, kind: usize) -> (f64, usize) {
+        let (seen, longs) = (&self.seen[kind], self.seen[kind].longs.borrow());
+        let alone = longs.iter().filter(|it| it.switches == 0);
+        (alone.clone().map(|it| it.took).fold(seen.brief.get() as f64 / self.rate.get(), f64::max), alone.count())
+    }
+
+    /// The longest of the library's calls of that kind, and how many of them, and of the control, were long.
+    fn tell_all(&self) {
+        let calls = (0..KINDS).filter(|it| NAMES[*it].starts_with("fx_"));
+        let (call, longest) = calls.clone().map(|it| (NAMES[it], self.alone(it).0)).fold(("", 0.0), |one, it| if it.1 > one.1 { it } else { one });
+        let long: usize = calls.map(|it| self.alone(it).1).sum();
+        let (control, of_control) = self.alone(Kind::control as usize);
+        println!("no other thread ran: {call} {longest:.1} us, {long} calls of the library over {LONG} us; the control {control:.1} us, {of_control}");
+    }
+
     fn tell(&self, kind: usize) {
         let (seen, longs) = (&self.seen[kind], self.seen[kind].longs.borrow());
         if seen.count.get() == 0 {
@@ -144,10 +162,11 @@ impl All {
         let longest = longs.iter().fold(brief, |one, other| if other.took > one.took { *other } else { one });
         let ran = longs.iter().map(|it| it.took - it.off).fold(brief.took, f64::max);
         let taken = longs.iter().filter(|it| it.took - it.off < LONG).count();
+        let (alone, _) = self.alone(kind);
         let mean = seen.ticks.get() as f64 / self.rate.get() / seen.count.get() as f64;
         let Long { took, off, switches, faults } = longest;
         println!(
-            "{:18} {:12} {mean:8.3} {:8} {taken:8} {took:10.1} {ran:10.1} {off:10.1} {switches:6} {faults:6}",
+            "{:18} {:12} {mean:8.3} {:8} {taken:8} {took:10.1} {ran:10.1} {alone:10.1} {off:10.1} {switches:6} {faults:6}",
             NAMES[kind],
             seen.count.get(),
             longs.len()
@@ -295,9 +314,12 @@ fn main() -> Result<(), Error> {
     assert!(run(turns.parse().expect("a number of turns"), name)?, "NAME is text, bytes, last or none");
     println!("{name}: {turns} turns, and the control, in {:.0} s", began.elapsed().as_secs_f64());
     println!(
-        "{:18} {:>12} {:>8} {:>8} {:>8} {:>10} {:>10} {:>10} {:>6} {:>6}",
-        "call", "calls", "mean us", "over 50", "not run", "longest", "ran", "off then", "switch", "faults"
+        "{:18} {:>12} {:>8} {:>8} {:>8} {:>10} {:>10} {:>10} {:>10} {:>6} {:>6}",
+        "call", "calls", "mean us", "over 50", "not run", "longest", "ran", "no switch", "off then", "switch", "faults"
     );
-    ALL.with(|all| (0..KINDS).for_each(|kind| all.tell(kind)));
+    ALL.with(|all| {
+        (0..KINDS).for_each(|kind| all.tell(kind));
+        all.tell_all();
+    });
     Ok(())
 }

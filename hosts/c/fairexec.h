@@ -93,7 +93,7 @@ enum fx_code {
     FX_BAD_NUMBER = 16, /* jobs, a step, a mode, a number of a config or a size field is out of its range */
     FX_OCCUPIED = 17,   /* the handle has a core already */
     FX_PARKED = 18,     /* fx_settle: the job is parked, and runs again after fx_wake alone */
-    FX_ABSENT = 19,     /* fx_wake: no job of that number is inside. fx_house_take: all seats were taken */
+    FX_ABSENT = 19,     /* fx_wake: no job of that number is inside. fx_house_take: all seats were taken. fx_seat_came: nothing came there */
     FX_JOURNAL_FULL = 20, /* the journal has too few notes free for the call */
     FX_UNKNOWN_CORE = 21, /* the house has no core of that number */
     FX_NO_ACTOR = 22,     /* the house has no actor of that number, or the turn of another one has come */
@@ -435,6 +435,14 @@ uint32_t fx_seat_deliver(fx_seat *seat, uint32_t sender) FX_NOT_NULL;
 uint32_t fx_seat_collect(fx_seat *seat, uint32_t core, uint64_t *count) FX_NOT_NULL;
 
 /*
+ * Writes the name of a submission whose outcome was collected, as the note at this place of the journal says. Places are as of fx_seat_copy: that of the
+ * oldest note which is kept is 0. fx_seat_collect notes each outcome, in the order in which they came, so the names of the `count` that it wrote stand at
+ * as many places from `kept` on, as fx_seat_notes wrote it before. The host redeems these, and has to try no other ticket.
+ * FX_EMPTY; FX_ABSENT: no note is kept there, or it says something else; FX_OK.
+ */
+uint32_t fx_seat_came(fx_seat *seat, uint64_t place, fx_name *name) FX_NOT_NULL;
+
+/*
  * Submits a job to a queue of a core, this one or another, and writes its name. The host may do so while it runs a job of its core.
  * What the core makes of it the outcome tells: also that it has no such queue. The submission has a place of the link until its outcome was
  * collected, and was redeemed or detached.
@@ -575,7 +583,7 @@ static inline const char *fx_text(uint32_t code) {
     case FX_BAD_NUMBER: return "a number or a size field is out of its range";
     case FX_OCCUPIED: return "the handle has a core already";
     case FX_PARKED: return "the job is parked";
-    case FX_ABSENT: return "no such job is inside, or no seat is left";
+    case FX_ABSENT: return "no such job is inside, no seat is left, or nothing came";
     case FX_JOURNAL_FULL: return "the journal has too few notes free";
     case FX_UNKNOWN_CORE: return "the house has no core of that number";
     case FX_NO_ACTOR: return "the house has no actor of that number, or another one is next";

@@ -157,6 +157,12 @@ static inline uint32_t fx_checked_seat_collect(fx_seat *seat, uint32_t core, uin
 }
 #define fx_seat_collect fx_checked_seat_collect
 
+static inline uint32_t fx_checked_seat_came(fx_seat *seat, uint64_t place, fx_name *name) {
+    if (!seat || !name) return FX_NULL;
+    return fx_seat_came(seat, place, name);
+}
+#define fx_seat_came fx_checked_seat_came
+
 static inline uint32_t fx_checked_seat_submit(fx_seat *seat, uint32_t to, uint32_t queue, uint64_t job, fx_name *name) {
     if (!seat || !name) return FX_NULL;
     return fx_seat_submit(seat, to, queue, job, name);

@@ -26,11 +26,13 @@ struct result {
 inline result done(uint64_t answer) { return {step::done, answer}; }
 
 // The right to ask for the outcome of a submission. `name` names the job, too: by it a job is woken. Of a job it has the place where that stands.
-// A ticket that is destroyed lets nothing go: its submission keeps its place of the link until it is redeemed or detached.
+// A ticket that is destroyed lets nothing go: its submission keeps its place of the link until it is redeemed or detached. `by` is the number of the
+// handle that submitted (fairexec_callers.hpp), or 0.
 struct ticket {
     fx_name name;
     uint64_t house;
     std::optional<uint32_t> place;
+    uint64_t by = 0;
 };
 
 // What became of a submission: as fx_outcome, with the job that comes back. `answer` is 0 unless `kind` is FX_KIND_DONE.
@@ -159,13 +161,29 @@ template <class Job> class actor : public noted {
     std::list<waiting> waits;
     // Whether outcomes were collected for which nobody asked yet.
     bool are_new = false;
+    // Where jobs go that come back and for which nobody asks, if somebody destroys them behind a lock.
+    std::vector<Job> *back = nullptr;
+    template <class> friend class behind_lock;
 
+    void let_go(std::optional<outcome<Job>> &told) {
+        if (back && told && told->back) back->push_back(std::move(*told->back));
+    }
+
+    // So many outcomes were collected just now.
+    void came(uint64_t count, std::vector<fx_name> &names) {
+        uint64_t kept = 0, more = 0;
+        fx_name name{};
+        (void)this->notes_kept(kept, more);
+        for (; count > 0; count--)
+            if (fx_seat_came(&seat, kept - count, &name) == FX_OK) names.push_back(name);
+    }
     // Asks for all outcomes that may have come. What a full journal refuses is asked for the next time, and so is all behind an exception of `takes`.
     void ask() {
         if (!are_new) return;
         bool again = false;
         for (std::size_t each = 0; each < loose.size();) {
-            fx_code code = redeem(loose[each]).first;
+            auto [code, told] = redeem(loose[each]);
+            let_go(told);
             again = again || code == FX_JOURNAL_FULL;
             if (code == FX_PENDING || code == FX_JOURNAL_FULL) each++;
             else loose[each] = loose.back(), loose.pop_back();
@@ -271,12 +289,14 @@ public:
         return ordered(called([&] { return fx_seat_wake(&seat, &job, &name); }), name);
     }
 
-    // Collects what all links show, and writes how many outcomes there were.
-    [[nodiscard]] fx_code collect(uint64_t &count) {
+    // Collects what all links show, and writes how many outcomes there were. With `names` the names of what came go behind those, in the order in which they
+    // came: so who has many tickets redeems these alone. The name of a submission that was let go is among them.
+    [[nodiscard]] fx_code collect(uint64_t &count, std::vector<fx_name> *names = nullptr) {
         count = 0;
         for (uint32_t core = 0; core < shared->cores(); core++) {
             uint64_t some = 0;
             if (to_core[core].pending == 0) continue;
+            if (names) names->reserve(names->size() + static_cast<std::size_t>(to_core[core].pending));
             uint32_t code = called([&] { return fx_seat_collect(&seat, core, &some); });
             if (code != FX_OK) return static_cast<fx_code>(code);
             // Each outcome is a note, and a call makes some four.
@@ -284,6 +304,7 @@ public:
             to_core[core].pending -= some;
             are_new = are_new || some > 0;
             count += some;
+            if (names) came(some, *names);
         }
         ask();
         wake_waiting();
@@ -318,7 +339,14 @@ public:
     // Nobody will ask for the outcome. A job that comes back is destroyed. If the journal is too full for the note, `collect` makes it later.
     [[nodiscard]] fx_code detach(const ticket &of) {
         bool is_order = !of.place && of.house == shared->house();
-        fx_code code = is_order ? static_cast<fx_code>(called([&] { return fx_seat_detach(&seat, &of.name); })) : redeem(of).first;
+        fx_code code;
+        if (is_order) {
+            code = static_cast<fx_code>(called([&] { return fx_seat_detach(&seat, &of.name); }));
+        } else {
+            auto [redeemed, told] = redeem(of);
+            let_go(told);
+            code = redeemed;
+        }
         if (code != FX_PENDING && code != FX_JOURNAL_FULL) return code;
         are_new = are_new || code == FX_JOURNAL_FULL;
         loose.push_back(of);

@@ -2,6 +2,7 @@
 
 Each call answers what is written, or raises `Refused` with the name of a code.
 """
+import re
 from collections import deque
 
 from parts import part_of
@@ -63,6 +64,13 @@ class Actor:
 
     def counts(self):
         return [len(self.notes), self.house.room - len(self.notes)]
+
+    def came(self, place):
+        """The name in the note at a place, if that says that an outcome was collected."""
+        words = self.notes[place].split() if place < len(self.notes) else ["", "none"]
+        if words[1] != "collected":
+            raise Refused("FX_ABSENT")
+        return [int(it) for it in re.split("[>#]", words[2])]
 
     def copy(self, first, most, room):
         """The text of some notes, if there is room for it. What is written, and the lines."""

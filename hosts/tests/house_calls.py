@@ -57,6 +57,9 @@ class Caller:
     def notes(self, actor):
         return "FX_OK", self.actor(actor).counts()
 
+    def came(self, actor, place):
+        return "FX_OK", self.actor(actor).came(place)
+
     def copy(self, actor, first, most, room):
         code, written, lines = self.actor(actor).copy(first, most, room)
         self.lines = iter(lines)

@@ -131,6 +131,7 @@ static void empty(fx_seat *seat) {
     IS(fx_seat_shows(seat), FX_EMPTY);
     IS(fx_seat_pass_on(seat, (uint8_t *)&out.turn, sizeof out.turn, &out.count), FX_EMPTY);
     IS(fx_seat_notes(seat, &out.count, &out.second), FX_EMPTY);
+    IS(fx_seat_came(seat, 0, &out.name), FX_EMPTY);
     IS(fx_seat_copy(seat, 0, 9, (uint8_t *)&out.turn, sizeof out.turn, &out.count, &out.second), FX_EMPTY);
     IS(fx_seat_copy_bytes(seat, 7, 0, 9, (uint8_t *)&out.turn, sizeof out.turn, &out.count, &out.second), FX_EMPTY);
     IS(fx_seat_forget(seat, &out.count), FX_EMPTY);

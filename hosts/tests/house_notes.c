@@ -149,8 +149,51 @@ static void wrong_copies(void) {
     for (int each = 0; each < 3; each++) empty(&of.seats[each]);
 }
 
+/* Outcomes come in another order than jobs were submitted in, and each is redeemed by its name, with no other ticket tried. */
+static void came(void) {
+    all of = opened(4, 1, 100);
+    fx_seat *core = &of.seats[0], *outside = &of.seats[OUTSIDE];
+    const uint64_t order[] = {2, 3, 4, 1};
+    uint64_t count = 0, kept = 0;
+    fx_name names[4];
+    poison();
+    for (uint64_t each = 0; each < 4; each++) IS(fx_seat_submit(outside, 0, 0, each + 1, &names[each]), FX_OK);
+    IS(fx_seat_detach(outside, &names[3]), FX_OK);
+    for (int each = 0; each < 4; each++) IS(fx_seat_deliver(core, OUTSIDE), FX_OK);
+    for (int each = 0; each < 5; each++) {
+        /* The first job yields, and ends last. */
+        out.turn.size = sizeof out.turn;
+        IS(fx_seat_next(core, &out.turn), each == 4 ? FX_RESUME : FX_START);
+        IS(fx_seat_settle(core, each == 0 ? FX_STEP_YIELD : FX_STEP_DONE, 10 * out.turn.job, 1), each == 0 ? FX_OK : FX_DONE);
+    }
+    IS(fx_seat_notes(outside, &kept, &out.second), FX_OK);
+    poison();
+    REFUSES(&of, fx_seat_came(outside, kept, &out.name), FX_ABSENT);
+    REFUSES(&of, fx_seat_came(outside, kept - 1, &out.name), FX_ABSENT);
+    IS(fx_seat_collect(outside, 0, &count), FX_OK);
+    is("four came", (uint32_t)count, 4);
+    REFUSES(&of, fx_seat_came(outside, kept + count, &out.name), FX_ABSENT);
+    REFUSES(&of, fx_seat_came(outside, UINT64_MAX, &out.name), FX_ABSENT);
+    REFUSES(&of, fx_seat_came(core, 0, &out.name), FX_ABSENT);
+    is_poisoned();
+    for (uint64_t each = 0; each < count; each++) {
+        fx_name name = {0, 0, 0};
+        IS(fx_seat_came(outside, kept + each, &name), FX_OK);
+        is("the next that came", name.number == order[each] && name.from == OUTSIDE && name.to == 0, 1);
+        /* The one that was let go is told, too. Each redemption is a note behind them. */
+        IS(fx_seat_redeem(outside, &name, &out.outcome), name.number == 4 ? FX_GONE : FX_OK);
+        if (name.number != 4) is("has its outcome", (uint32_t)out.outcome.answer, (uint32_t)(10 * order[each]));
+    }
+    IS(fx_seat_forget(outside, &out.count), FX_OK);
+    poison();
+    REFUSES(&of, fx_seat_came(outside, kept, &out.name), FX_ABSENT);
+    is_poisoned();
+    freed(&of);
+}
+
 int main(void) {
     passing();
+    came();
     copying();
     wrong_copies();
     printf("%u passed, %u failed\n", passed, failed);

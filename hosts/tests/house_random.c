@@ -238,6 +238,19 @@ static void pass_on(uint32_t actor) {
     if (code == FX_OK) print_text(text_bytes, count, &begins);
 }
 
+/* What came, as some of the newest notes say, or one anywhere. */
+static void came(uint32_t actor, uint64_t kept) {
+    for (uint64_t each = 0; each < 6; each++) {
+        fx_name name;
+        uint64_t place = rarely(20) ? any() >> below(64) : kept - each;
+        poison(&name, sizeof name);
+        uint32_t code = fx_seat_came(at(&seats[actor]), place, at(&name));
+        PRINT("came %" PRIu32 " %" PRIu64 " = %" PRIu32 "%s", actor, place, code, wrote(&name, sizeof name, code == FX_OK));
+        if (code == FX_OK) printf(" %" PRIu32 " %" PRIu32 " %" PRIu64, name.from, name.to, name.number);
+        printf("\n");
+    }
+}
+
 /* Notes of an actor are copied, as text or in bytes, from any place, to a buffer of any room. Those of a house that passes notes on are forgotten at times. */
 static void copy(uint32_t actor) {
     uint64_t kept = 0x5a5a5a5a5a5a5a5a, free_notes = kept, count = kept, notes = kept;
@@ -245,6 +258,7 @@ static void copy(uint32_t actor) {
     PRINT("notes %" PRIu32 " = %" PRIu32 "%s%s", actor, code, wrote(&kept, sizeof kept, code == FX_OK), wrote(&free_notes, sizeof free_notes, code == FX_OK));
     if (code == FX_OK) printf(" %" PRIu64 " %" PRIu64, kept, free_notes);
     printf("\n");
+    came(actor, code == FX_OK ? kept : 9);
     uint64_t first = rarely(20) ? any() >> below(64) : below(code == FX_OK ? (uint32_t)kept + 2 : 9), most = rarely(20) ? any() >> below(64) : below(40);
     size_t room = rarely(3) ? below(400) : 4000, checked = room + 100;
     bool begins = true;

@@ -56,14 +56,14 @@ def header_of(text):
 
 # What the caller hands in beside a null: with these numbers and places, and at its stage (nulls.h), a call without a null does something.
 NUMBERS = {"jobs": "4", "shares": "100", "queue": "0", "job": "7", "order": "1", "step": "FX_STEP_YIELD", "spent": "1", "mode": "FX_MODE_RETURN", "from": "0", "room": "sizeof here.bytes",
-           "answer": "1", "before": "0", "sender": "0", "core": "0", "to": "0", "most": "9"}
+           "answer": "1", "before": "0", "sender": "0", "core": "0", "to": "0", "most": "9", "place": "5"}
 PLACES = {"fx_core *": "&here.core", "fx_house *": "&here.house", "fx_seat *": "seat", "const fx_config *": "&here.config", "const fx_name *": "&here.job",
           "fx_core_stats *": "&here.core_stats", "fx_queue_stats *": "&here.queue_stats", "fx_turn *": "&here.turn", "fx_outcome *": "&here.outcome", "fx_name *": "&here.name",
           "fx_verdict *": "&here.verdict", "uint32_t *": "&here.number", "uint64_t *": "&here.count", "uint8_t *": "here.bytes"}
 # A second number of a call has a place of its own.
 SECOND = {"free_notes": "&here.second", "notes": "&here.second"}
 STAGES = {"fx_open": "VACANT", "fx_house_open": "VACANT", "fx_house_take": "UNTAKEN", "fx_settle": "RUNNING", "fx_seat_settle": "RUNNING", "fx_seat_step": "RUNNING", "fx_seat_next": "DELIVERED",
-          "fx_seat_redeem": "COLLECTED", "fx_seat_shut": "CLOSED", "fx_seat_drained": "DRAINED", "fx_house_end": "DRAINED", "fx_house_audit": "ENDED", "fx_house_text": "ENDED"}
+          "fx_seat_redeem": "COLLECTED", "fx_seat_came": "COLLECTED", "fx_seat_shut": "CLOSED", "fx_seat_drained": "DRAINED", "fx_house_end": "DRAINED", "fx_house_audit": "ENDED", "fx_house_text": "ENDED"}
 
 
 def caller_of(text):

@@ -99,6 +99,25 @@ static void one_core() {
     is("and end", text.substr(text.size() - 4) == "end\n", 1);
 }
 
+// The first job yields, so it comes behind the second, and an order to another core comes with them.
+static void what_came() {
+    linked::house<counted> house({2, 4});
+    auto &outside = house.outside;
+    uint64_t count = 0;
+    bool did = false;
+    auto first = *outside.submit(1, 0, counted(1)).ticket, second = *outside.submit(1, 0, counted(2)).ticket, order = *outside.create(0, 100).ticket;
+    for (auto &core : house.cores) is("all is delivered", core.deliver(did, 4), FX_OK);
+    is("the first job yields", house.cores[1].run_turn([](counted &, auto &) { return step::yield; }), FX_OK);
+    while (house.cores[1].run_turn(twice) == FX_DONE) {}
+    std::vector<fx_name> names;
+    is("three came", outside.collect(count, &names) == FX_OK && count == 3 && names.size() == 3, 1);
+    auto same = [](const fx_name &one, const linked::ticket &other) { return one.from == other.name.from && one.to == other.name.to && one.number == other.name.number; };
+    is("the order first, by its core", same(names[0], order), 1);
+    is("then what came first", same(names[1], second) && same(names[2], first), 1);
+    is("no more came", outside.collect(count, &names) == FX_OK && count == 0 && names.size() == 3, 1);
+    is("each has its outcome", outside.redeem(first).second->answer + outside.redeem(second).second->answer, 6);
+}
+
 static void what_comes_back() {
     {
         linked::house<counted> house({1, 4});
@@ -528,6 +547,7 @@ int main() {
     waits_for_a_thread_that_ended();
     detaches_later();
     one_core();
+    what_came();
     what_comes_back();
     notes_go_on();
     notes_go_on_in_bytes();

@@ -1,4 +1,10 @@
 //! A handle on a caller that stands behind a lock.
+//!
+//! Each call takes the lock (hall.rt), makes one call of the caller, and gives the lock back. So the calls of all handles stand one after
+//! another, as one thread could have made them.
+//!
+//! - A ticket has the number of the handle that submitted. Another handle's is refused as `Unknown`, with no look at the caller.
+//! - `_life` counts the handles that aren't gone. The caller comes back from behind its lock once there is none.
 
 ghost use Rattle.std.specs.Prelude.{◌≡◌, ◌≢◌, ◌↔◌, Err, IfOk, IsTrue};
 ghost use Rattle.std.specs.Arc.{arc_value};

@@ -1,4 +1,13 @@
 //! How a handle waits: it holds the lock for each look, and for no sleep.
+//!
+//! A wait goes round until its outcome isn't pending:
+//!
+//! 1. With the lock it redeems. If the outcome is pending and another leads, it lies down on `moved` before the lock goes back, so it misses
+//!    no ring. If nobody leads it collects, and leads if nothing came.
+//! 2. Who leads looks for the outcomes of all, and sleeps on the outside actor's bell (looker.rt). Who follows sleeps on `moved`.
+//! 3. Then it redeems again. What came may be another's.
+//!
+//! A wait with a limit neither leads nor follows: it looks and naps.
 
 ghost use Rattle.std.specs.Prelude.{◌≡◌, ◌≢◌, Err};
 ghost use Rattle.base_words.specs.declared.names.TicketError.TheVariants.{Pending, Unknown};

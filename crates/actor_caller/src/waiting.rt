@@ -1,4 +1,10 @@
 //! The calls of a caller that waits.
+//!
+//! A caller that nobody shares waits on its own thread. It asks for what it wants, and rests if that isn't there yet.
+//!
+//! - A rest looks at all links 1,024 times, and then lies down on the outside actor's bell, looks once more, and parks.
+//! - A rest may end without an outcome, and an outcome may be another's. So each wait asks again behind it.
+//! - A submission that waits for room rests in the same way, since a place comes free by an outcome alone.
 
 ghost use Rattle.std.specs.Prelude.{◌≡◌, ◌<◌, ◌↔◌, IfNone, IfOk, IfSome, IsTrue, is_none, length};
 ghost use Rattle.base_jobs.specs.Ready.{HasReadyJob};

@@ -1,4 +1,11 @@
 //! A core beside its journal, over any ends of links.
+//!
+//! Each call makes a step of the core, and writes the notes of that step at once. So core and journal agree between any two calls.
+//!
+//! - `said` is the desk of this actor beside the journal of all it did, its core's steps too.
+//! - `took` has no bytes: it is the list of delivered orders, for proofs alone.
+//! - Ends of links aren't held here. A call that needs one is lent it for that long.
+//! - A job that a pick handed back, or that a poll in its place ended, is owed its outcome: `give_back` and `give_done` give it.
 
 ghost use Rattle.std.specs.Prelude.{◌≡◌, ℕ, ◌+◌, ◌<◌, ◌≤◌, ◌≢◌, ◌↔◌, false, length, Ok, Some, None, is_some, IsSome, IsTrue, IfOk};
 ghost use Rattle.base_words.specs.Closing.{IsDrained, core_mode, final_count};

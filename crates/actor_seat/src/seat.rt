@@ -1,4 +1,10 @@
 //! A core beside its journal, at its actor's ends of the links.
+//!
+//! A seat is all that one actor with a core has: its core and journal, and one end of each of its links.
+//!
+//! - It belongs to one thread. The other end of each link belongs to another thread, and no call waits for it.
+//! - Each call hands the end that it needs to the core, and gives what is owed on it before it returns.
+//! - So between two calls no outcome is owed, and each order on a link has its note.
 
 ghost use Rattle.std.specs.Prelude.{◌≡◌, ◌+◌, ◌<◌, ◌≤◌, None, Ok, Some, IfSome, IsSome, length, OnErr};
 ghost use Rattle.core_core.specs.Answers.{IsReadyTurn};

@@ -1,4 +1,10 @@
 //! A house that is planned before its threads are there.
+//!
+//! A house is a plan: nothing is asked of the system before `start`. Each planned queue is checked at once, so a start fails for want of
+//! memory or threads, or for a number that the plan took as it is.
+//!
+//! - A core has queue 0 from the beginning. The queues that are planned follow in the order of the plan, so their numbers are known at once.
+//! - `start` hands the plan to the runtime and its names to the node. `start_with` takes parts for each core, by their order.
 
 ghost use Rattle.std.specs.Prelude.{◌≡◌, ◌+◌, ◌<◌, ◌≤◌, All, [], IfOk, Some, length, min};
 ghost use Rattle.std.specs.Result.{result_map_both};

@@ -3,7 +3,7 @@
 ghost use Rattle.std.specs.Prelude.{◌≡◌, None};
 ghost use Rattle.host_calls.specs.Links.{ClosesTold, DeliversTold, IsTold, ShutsTold};
 ghost use Rattle.host_calls.specs.Members as members;
-ghost use Rattle.host_calls.specs.Notes.{CopiesTold, ForgetsTold, NotesTold};
+ghost use Rattle.host_calls.specs.Notes.{CameTold, CopiesTold, ForgetsTold, NotesTold};
 ghost use Rattle.host_calls.specs.Orders.{mode_of_number};
 ghost use Rattle.host_calls.specs.Passing.{PassesTold};
 ghost use Rattle.host_calls.specs.Stats.{SeatTells, SeatTellsQueue};
@@ -220,6 +220,25 @@ pub extern "C" fn fx_seat_notes(
         return number(Code::Empty);
     };
     let code = member.notes(kept, free_notes);
+    put(seat, member);
+    number(code)
+}
+
+/// Tells the name of a submission whose outcome was collected, as the note at this place of the journal says.
+#[unsafe(no_mangle)]
+pub extern "C" fn fx_seat_came(
+    alloc: Global,
+    seat: &mut SeatHandle,
+    place: u64,
+    name: &mut Name,
+) -> u32
+    ensures seat { OnCore seat.old.value seat.new.value result (λ old told new. (new ≡ old) × CameTold old place name.old told name.new) }
+    ensures empty { seat.old.value ≡ None → name.new ≡ name.old }
+{
+    let Some(member) = take(alloc, seat) else {
+        return number(Code::Empty);
+    };
+    let code = member.came(place, name);
     put(seat, member);
     number(code)
 }

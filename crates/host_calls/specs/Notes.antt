@@ -1,5 +1,10 @@
 -- What the host is told of the notes that the journal of an actor keeps, and how it forgets them.
-use Rattle.std.specs.Prelude.{◌≡◌, ℕ, List, Result, Ok, Err}
+use Rattle.std.specs.Prelude.{◌≡◌, ℕ, ◌++◌, List, Option, Some, None, Result, Ok, Err, reverse, slice_get}
+use Rattle.base_words.specs.Journal.{Journal}
+use Rattle.base_words.specs.Outstanding.{name_collected}
+use Rattle.base_words.specs.declared.names.JobId.{JobId}
+use Rattle.base_words.specs.declared.note.Note.{Note}
+use Rattle.note_journal.specs.Journals.{JournalView}
 use Rattle.host_core.specs.Passing as core
 use Rattle.host_house.specs.Passing as outside
 use Rattle.host_text.specs.declared.part.Form.{Form}
@@ -11,7 +16,9 @@ use Rattle.host_calls.specs.declared.code.Code.{Code}
 use Rattle.host_calls.specs.declared.code.Code.TheVariants as code
 use Rattle.host_calls.specs.declared.member.Member.{Member}
 use Rattle.host_calls.specs.declared.member.Member.TheVariants as member
+use Rattle.host_calls.specs.declared.names.Name.{Name}
 use Rattle.host_calls.specs.Members.{IsActor}
+use Rattle.host_calls.specs.Names.{name_told}
 use Rattle.host_calls.specs.Passing.{code_of_passed}
 use Rattle.host_calls.specs.Submissions.{OnActor}
 
@@ -59,3 +66,37 @@ ForgetsOn old count new = ⊥
 -- how many they were is told
 abbrev pub ForgetsTold : Member → ℕ → Code → ℕ → Member → Type 0
 ForgetsTold old before told after new = OnActor old (after ≡ before) told new ((told ≡ code.Ok) × ForgetsOn old after new)
+
+-- a journal keeps this note at a place, the oldest first, or none there
+pub record KeepsAt (journal : JournalView ℕ) (place : ℕ) (note : Option (Note ℕ)) : Type 0 where
+  pub kept : Journal ℕ
+  pub whole : kept ++ journal.passed ≡ journal.notes
+  pub is : note ≡ slice_get (reverse kept) place
+
+-- the journal of an actor does
+abbrev pub KeepsOn : Member → ℕ → Option (Note ℕ) → Type 0
+KeepsOn (member.House view) place found = ⊥
+KeepsOn (member.Core view) place found = KeepsAt view.recorded.journal place found
+KeepsOn (member.Outside view) place found = KeepsAt view.desk.journal place found
+KeepsOn (member.Ended view) place found = ⊥
+
+-- the name under which a note says that an outcome was collected
+abbrev pub came : Option (Note ℕ) → Option JobId
+came None = None
+came (Some note) = name_collected note
+
+-- the code of that
+abbrev pub code_of_came : Option JobId → Code
+code_of_came (Some name) = code.Ok
+code_of_came None = code.Absent
+
+-- the name for the host; else what stood there stays
+abbrev pub came_told : Option JobId → Name → Name
+came_told (Some name) before = name_told name
+came_told None before = before
+
+-- the name of an outcome that came is told, as the note at a place says, or that it says no such thing
+abbrev pub CameTold : Member → ℕ → Name → Code → Name → Type 0
+CameTold actor place before told after =
+    OnActor actor (after ≡ before) told actor
+    ((note : Option (Note ℕ)) × KeepsOn actor place note × (told ≡ code_of_came (came note)) × (after ≡ came_told (came note) before))

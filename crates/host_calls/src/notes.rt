@@ -1,14 +1,16 @@
 //! What an actor tells of the notes that its journal keeps, and how it copies and forgets them.
 
-ghost use Rattle.std.specs.Prelude.{◌≡◌};
+ghost use Rattle.std.specs.Prelude.{◌≡◌, ℕ, Option};
+ghost use Rattle.base_words.specs.declared.note.Note.{Note};
 ghost use Rattle.host_text.specs.Pieces.{AreCounts};
 ghost use Rattle.host_calls.specs.declared.code.Code.TheVariants as code;
-ghost use Rattle.host_calls.specs.Notes.{CopiesOn, CopiesTold, ForgetsTold, NotesTold, count_copied, notes_copied};
+ghost use Rattle.host_calls.specs.Notes.{CameTold, CopiesOn, CopiesTold, ForgetsTold, KeepsAt, NotesTold, came, came_told, code_of_came, count_copied, notes_copied};
 ghost use Rattle.host_calls.specs.Passing.{code_of_passed};
 
 use crate::code::Code;
 use crate::member::Member;
-use base_words::ActorNo;
+use crate::names::{Name, told};
+use base_words::{ActorNo, JobId, Note};
 use host_text::{Form, PassError, Piece, copy_piece};
 use note_journal::RunningJournal;
 use std::alloc::Global;
@@ -74,6 +76,17 @@ impl Member {
         }
     }
 
+    /// Tells the name under which the note at this place, of those that the journal of an actor keeps, says that an outcome was collected.
+    pub fn came(&self, place: u64, name: &mut Name) -> Code
+        ensures { CameTold self.now place name.old result name.new }
+    {
+        match self {
+            Member::Core(core) => tell_came(core.journal(), place, name),
+            Member::Outside(outside) => tell_came(outside.journal(), place, name),
+            _ => Code::Empty,
+        }
+    }
+
     /// Forgets the notes that the journal of an actor keeps, and tells how many they were.
     pub fn forget(&mut self, count: &mut u64) -> Code
         ensures { ForgetsTold self.old count.old result count.new self.new }
@@ -96,6 +109,29 @@ fn tell_counts(journal: &RunningJournal<u64>, kept: &mut u64, free: &mut u64) ->
     *kept = journal.kept_count() as u64;
     *free = u64::from(journal.free());
     Code::Ok
+}
+
+/// Tells that name, or that the note says no such thing.
+fn tell_came(journal: &RunningJournal<u64>, place: u64, name: &mut Name) -> Code
+    ensures { (note : Option (Note ℕ)) × KeepsAt journal.now place note × (result ≡ code_of_came (came note)) × (name.new ≡ came_told (came note) name.old) }
+{
+    match collected_at(journal, place) {
+        Some(found) => {
+            *name = told(found);
+            Code::Ok
+        }
+        None => Code::Absent,
+    }
+}
+
+/// The name under which the note that a journal keeps at this place says that an outcome was collected.
+fn collected_at(journal: &RunningJournal<u64>, place: u64) -> Option<JobId>
+    ensures { (note : Option (Note ℕ)) × KeepsAt journal.now place note × (result ≡ came note) }
+{
+    match journal.kept().get(place as usize) {
+        Some(Note::Collected(name, _)) => Some(name),
+        _ => None,
+    }
 }
 
 /// Tells how many bytes of how many notes were copied, or how many bytes are wanted, or why none were copied.

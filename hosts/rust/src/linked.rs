@@ -18,6 +18,7 @@
 //!
 //! - [`House`] opens the cores and the outside actor, and takes them back at the end: [`Journals`] has the notes of all, and their audit.
 //! - [`Core`] runs jobs of any type, by [`Core::run_turn`], [`Core::round`] or [`Core::run`]. [`Job`] is a closure. [`Outside`] only submits.
+//! - [`Callers`] gives handles on the outside actor, for any threads.
 //! - A job may submit to any core by its [`Cx`]. A submission has a [`Ticket`], by which its [`Outcome`] is asked for.
 //! - What becomes of notes, [`Journal`] says. Without it a house lives for as many notes as its journals have room for.
 //! - A core that has nothing to do sleeps, or waits by the host's own means: [`Core::wait_by`], [`Core::set_bell`].
@@ -26,6 +27,7 @@
 
 mod actor;
 mod board;
+mod callers;
 mod core;
 mod cx;
 mod fresh;
@@ -38,10 +40,13 @@ mod notes;
 mod outside;
 mod runs;
 mod seat;
+mod submissions;
 mod tasks;
+mod waiters;
 
 pub use actor::Ticket;
 pub use board::Stats;
+pub use callers::{Caller, CallerTicket, Callers};
 pub use core::Core;
 pub use cx::Cx;
 pub use futures::{Cancelled, Join};

@@ -190,6 +190,7 @@ extern "C" {
     pub fn fx_seat_step(seat: *mut fx_seat, step: u32, answer: u64, spent: u64, turn: *mut fx_turn) -> u32;
     pub fn fx_seat_deliver(seat: *mut fx_seat, sender: u32) -> u32;
     pub fn fx_seat_collect(seat: *mut fx_seat, core: u32, count: *mut u64) -> u32;
+    pub fn fx_seat_came(seat: *mut fx_seat, place: u64, name: *mut fx_name) -> u32;
     pub fn fx_seat_submit(seat: *mut fx_seat, to: u32, queue: u32, job: u64, name: *mut fx_name) -> u32;
     pub fn fx_seat_create(seat: *mut fx_seat, to: u32, shares: u32, name: *mut fx_name) -> u32;
     pub fn fx_seat_set_shares(seat: *mut fx_seat, to: u32, queue: u32, shares: u32, name: *mut fx_name) -> u32;

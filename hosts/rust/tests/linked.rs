@@ -366,3 +366,36 @@ fn who_takes_notes_from_now_on_gets_those_that_were_not_taken() -> Result<(), Er
     assert_eq!(lines, ["sent", "sent", "collected", "collected", "redeemed", "redeemed", "sent", "sent"].map(Some));
     Ok(())
 }
+
+// Jobs that yield come behind others that were submitted later, and an order is answered at once.
+#[test]
+fn what_came_is_told_by_its_names() -> Result<(), Error> {
+    for notes in [24, 1 << 12] {
+        let (_house, mut cores, mut outside) = House::open(&Config { cores: 2, places: 8, notes, ..Config::default() })?;
+        outside.keep_notes_by(|_| {});
+        for core in &mut cores {
+            core.keep_notes_by(|_| {});
+        }
+        for _ in 0..20 {
+            let jobs = [3, 1, 2].map(|runs| outside.submit(1, 0, runs).map_err(|(error, _)| error));
+            let [first, second, third] = jobs.map(|it| it.map(|ticket| (ticket.name(), ticket)));
+            let (first, second, third) = (first?, second?, third?);
+            let order = outside.set_shares(0, 0, 500)?;
+            for core in &mut cores {
+                while core.round(|runs, _| {
+                    *runs -= 1;
+                    if *runs == 0 { Step::Done(7) } else { Step::Yield }
+                })? {}
+            }
+            let mut names = vec![order.name()];
+            assert_eq!(outside.collect_names(&mut names)?, 4);
+            assert_eq!(names, [order.name(), order.name(), second.0, third.0, first.0]);
+            assert_eq!((outside.collect_names(&mut names)?, names.len()), (0, 5));
+            for (_, ticket) in [first, second, third] {
+                assert_eq!(outside.redeem(&ticket)?, Outcome::Done(7));
+            }
+            outside.detach(order)?;
+        }
+    }
+    Ok(())
+}

@@ -1,4 +1,10 @@
 //! A whole turn with its jobs in their places, poll by poll, beside its journal. A job may submit, redeem and detach.
+//!
+//! The order of a poll's notes is the order of its steps: the pick, what the job posted, the settling.
+//!
+//! - Before the poll `ahead` tells the job. Its notes are written from what was told, so nothing is asked of the core in between.
+//! - During the poll the desk and the ends to all cores are lent to the job's post. What the job sends is noted there, as it is accepted.
+//! - Behind the poll its settling is noted. The outcome of a job that is done is owed to its sender from then on.
 ghost use Rattle.std.specs.Prelude.{◌≡◌, ℕ, ◌+◌, ◌*◌, ◌<◌, ◌≤◌, ◌++◌, None, IfSome, length, reverse, sum_by};
 ghost use Rattle.std.specs.Option.{option_map};
 ghost use Rattle.core_queues.specs.Fronts.{MakesCalls};

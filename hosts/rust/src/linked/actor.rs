@@ -44,7 +44,7 @@ impl Ticket {
     }
 
     /// The same ticket once more.
-    fn again(&self) -> Ticket {
+    pub(super) fn again(&self) -> Ticket {
         Ticket { ..*self }
     }
 }
@@ -58,6 +58,8 @@ struct Sent {
     kept: usize,
     // Submissions whose outcome wasn't collected.
     pending: u64,
+    // Outcomes that were collected and not redeemed, or more: an order that was detached before its answer came stays counted.
+    ready: u64,
     // Whether the core was told that it has to look at the link.
     is_used: bool,
     // Submissions for whose outcome nobody asks. They are redeemed once they are collected, since a job that comes back has a place.
@@ -115,7 +117,7 @@ impl<J> DerefMut for Entered<'_, J> {
 impl<J> Actor<J> {
     pub(super) fn new(number: u32, seat: Seat, lanes: Arc<Lanes<J>>) -> Actor<J> {
         let (room, keeps) = (Lanes::<J>::room(lanes.places()), |to| if to == number && lanes.places() > 1 { 2 } else { 0 });
-        let none = |to| Sent { vacant: (0..room).collect(), kept: keeps(to), pending: 0, is_used: false, loose: VecDeque::new() };
+        let none = |to| Sent { vacant: (0..room).collect(), kept: keeps(to), pending: 0, ready: 0, is_used: false, loose: VecDeque::new() };
         let sent = (0..lanes.cores()).map(none).collect();
         let fresh = Fresh::new(lanes.cores() + 1);
         Actor { seat, number, lanes, sent, misses: false, fresh }
@@ -214,11 +216,26 @@ impl<J> Actor<J> {
 
     /// Collects what the links show. How many outcomes there were.
     pub(super) fn collect(&mut self) -> Result<u64, Error> {
+        let mut back = Vec::new();
+        self.collect_and_keep(&mut back, None)
+    }
+
+    /// The same. The names of what came go behind these.
+    pub(super) fn collect_names(&mut self, names: &mut Vec<Name>) -> Result<u64, Error> {
+        let mut back = Vec::new();
+        self.collect_and_keep(&mut back, Some(names))
+    }
+
+    /// The same. The jobs that come back and for which nobody asks go behind these, for the caller to drop, and the names of what came behind those.
+    pub(super) fn collect_and_keep(&mut self, back: &mut Vec<J>, mut names: Option<&mut Vec<Name>>) -> Result<u64, Error> {
         let (mut all, mut misses) = (0, false);
         let missed = std::mem::replace(&mut self.misses, true);
         for core in 0..self.lanes.cores() {
             let count = self.collect_from(core)?;
-            misses |= !self.redeem_loose(core, if missed { u64::MAX } else { count });
+            if let Some(names) = names.as_deref_mut().filter(|_| count > 0) {
+                self.seat.came(count, names)?;
+            }
+            misses |= !self.redeem_loose(core, if missed { u64::MAX } else { count }, back);
             all += count;
         }
         self.misses = misses;
@@ -229,18 +246,20 @@ impl<J> Actor<J> {
         let sent = &mut self.sent[core as usize];
         let count = if sent.pending > 0 { self.seat.collect(core)? } else { 0 };
         sent.pending -= count;
+        sent.ready += count;
         Ok(count)
     }
 
     /// Redeems so many of the submissions for which nobody asks, if their outcomes were collected. Whether the journal had room.
-    fn redeem_loose(&mut self, core: u32, most: u64) -> bool {
+    fn redeem_loose(&mut self, core: u32, most: u64, back: &mut Vec<J>) -> bool {
         let (mut at, mut left) = (0, most);
         while left > 0 {
             let Some(ticket) = self.sent[core as usize].loose.get(at).map(Ticket::again) else { return true };
             match self.redeem(&ticket) {
                 Err(Error::JournalFull) => return false,
                 Err(Error::Pending) => at += 1,
-                _ => {
+                told => {
+                    back.extend(told.ok().and_then(Outcome::into_job));
                     self.sent[core as usize].loose.remove(at);
                     left -= 1;
                 }
@@ -266,23 +285,37 @@ impl<J> Actor<J> {
                 Outcome::Back(Reason::of(reason), job.expect("a job that comes back has its place"))
             }
         };
+        let sent = &mut self.sent[to as usize];
+        sent.ready -= 1;
         // An outcome is redeemed once, so no place is vacant twice.
         if ticket.place != NOWHERE {
-            self.sent[to as usize].vacant.push_back(ticket.place);
+            sent.vacant.push_back(ticket.place);
         }
         Ok(outcome)
     }
 
-    pub(super) fn detach(&mut self, ticket: Ticket) -> Result<(), Error> {
-        let is_order = ticket.place == NOWHERE && ticket.house == self.lanes.house();
-        let told = if is_order { self.seat.detach(ticket.name) } else { self.redeem(&ticket).map(|_| ()) };
-        if !matches!(told, Err(Error::Pending | Error::JournalFull)) {
-            return told;
+    /// The same, before anything is collected: `Pending` at once if no outcome of this core waits to be redeemed.
+    #[inline]
+    pub(super) fn redeem_early(&mut self, ticket: &Ticket) -> Result<Outcome<J>, Error> {
+        match self.sent.get(ticket.name.to as usize) {
+            Some(sent) if sent.ready > 0 => self.redeem(ticket),
+            _ => Err(Error::Pending),
         }
-        // The next collection looks for it, also if its outcome was collected before.
-        self.misses |= told == Err(Error::JournalFull);
-        self.sent[ticket.name.to as usize].loose.push_back(ticket);
-        Ok(())
+    }
+
+    /// Nobody asks for the outcome of this submission from now on. If its job came back, the caller drops it.
+    pub(super) fn detach(&mut self, ticket: Ticket) -> Result<Option<J>, Error> {
+        let is_order = ticket.place == NOWHERE && ticket.house == self.lanes.house();
+        let told = if is_order { self.seat.detach(ticket.name).map(|()| None) } else { self.redeem(&ticket).map(Outcome::into_job) };
+        match told {
+            // The next collection looks for it, also if its outcome was collected before.
+            Err(error @ (Error::Pending | Error::JournalFull)) => {
+                self.misses |= error == Error::JournalFull;
+                self.sent[ticket.name.to as usize].loose.push_back(ticket);
+                Ok(None)
+            }
+            told => told,
+        }
     }
 
     /// Sleeps until its bell is rung, for so long at most.
@@ -291,143 +324,3 @@ impl<J> Actor<J> {
         lanes.sleep(*number, longest, || seat.shows());
     }
 }
-
-/// The calls on submissions, which a core, a job that runs and the outside actor have alike.
-macro_rules! submissions {
-    ($($entered:tt)+) => {
-        /// Submits a job to a queue of a core. The job itself may be inside before this call is over.
-        ///
-        /// # Errors
-        ///
-        /// `NoQueue` above 255, `UnknownCore`, `JournalFull`, `Closed`, `Full`, `Spent`, each with the job.
-        #[inline]
-        pub fn submit(&mut self, to: u32, queue: u32, job: J) -> Result<Ticket, (Error, J)> {
-            self.$($entered)+.submit(to, queue, job)
-        }
-
-        /// Submits an order to make a queue with these shares. Each order that is no job has an answer as its outcome.
-        ///
-        /// # Errors
-        ///
-        /// `BadShares`, then as `submit`.
-        pub fn create(&mut self, to: u32, shares: u32) -> Result<Ticket, Error> {
-            self.$($entered)+.order(to, |seat| seat.create(to, shares))
-        }
-
-        /// Submits an order to give a queue these shares.
-        ///
-        /// # Errors
-        ///
-        /// `BadShares`, then as `submit`.
-        pub fn set_shares(&mut self, to: u32, queue: u32, shares: u32) -> Result<Ticket, Error> {
-            self.$($entered)+.order(to, |seat| seat.set_shares(to, queue, shares))
-        }
-
-        /// Submits an order to close a queue.
-        ///
-        /// # Errors
-        ///
-        /// As `submit`.
-        pub fn close_queue(&mut self, to: u32, queue: u32, mode: $crate::Mode) -> Result<Ticket, Error> {
-            self.$($entered)+.order(to, |seat| seat.close_queue(to, queue, mode))
-        }
-
-        /// Submits an order to close a core.
-        ///
-        /// # Errors
-        ///
-        /// As `submit`.
-        pub fn close_core(&mut self, to: u32, mode: $crate::Mode) -> Result<Ticket, Error> {
-            self.$($entered)+.order(to, |seat| seat.close_core(to, mode))
-        }
-
-        /// Submits an order to wake a job, by its name, to the core where it is.
-        ///
-        /// # Errors
-        ///
-        /// As `submit`.
-        pub fn wake(&mut self, job: Name) -> Result<Ticket, Error> {
-            self.$($entered)+.order(job.to, |seat| seat.wake(job))
-        }
-
-        /// Collects all outcomes that the links show. How many there were.
-        ///
-        /// # Errors
-        ///
-        /// `JournalFull`.
-        pub fn collect(&mut self) -> Result<u64, Error> {
-            self.$($entered)+.collect()
-        }
-
-        /// The outcome of a submission that was collected. It is gone from then on.
-        ///
-        /// # Errors
-        ///
-        /// `JournalFull`, `Unknown` for the ticket of another actor, `Gone`, `Pending`.
-        #[inline]
-        pub fn redeem(&mut self, ticket: &Ticket) -> Result<Outcome<J>, Error> {
-            self.$($entered)+.redeem(ticket)
-        }
-
-        /// Nobody will ask for the outcome of a submission. A job that comes back is dropped. If the journal is too full for the note, `collect`
-        /// makes it later.
-        ///
-        /// # Errors
-        ///
-        /// `Unknown`, `Gone`.
-        pub fn detach(&mut self, ticket: Ticket) -> Result<(), Error> {
-            self.$($entered)+.detach(ticket)
-        }
-
-        /// Puts the notes that the journal keeps behind these bytes, in the [`Form`] of the house, and forgets them. The journal keeps none of them
-        /// then, and all its notes are free. All parts of an actor are its notes in the text of the journals, or in the journals as bytes.
-        ///
-        /// [`Form`]: super::Form
-        ///
-        /// # Errors
-        ///
-        /// `NoMemory`. Then nothing changes.
-        pub fn pass_on(&mut self, text: &mut Vec<u8>) -> Result<(), Error> {
-            self.$($entered)+.seat.pass_on(text)
-        }
-
-        /// How many notes the journal keeps, and how many more it has room for. One of these is for the settling of a job that runs.
-        ///
-        /// # Errors
-        ///
-        /// `Ended`.
-        pub fn note_counts(&mut self) -> Result<crate::linked::NoteCounts, Error> {
-            self.$($entered)+.seat.counts()
-        }
-
-        /// Forgets the notes that the journal keeps. How many they were. All its notes are free then, and the house can't be judged.
-        ///
-        /// # Errors
-        ///
-        /// `Ended`.
-        pub fn forget(&mut self) -> Result<u64, Error> {
-            self.$($entered)+.seat.forget()
-        }
-
-        /// Puts the text of so many of the newest notes behind this text: of those that the journal keeps, and with [`Journal::Last`] of those that stayed
-        /// of the ones before. How many notes these are. All of them stay.
-        ///
-        /// # Errors
-        ///
-        /// `NoMemory`, `Ended`. Then nothing changes.
-        ///
-        /// [`Journal::Last`]: super::Journal::Last
-        pub fn newest(&mut self, most: u64, text: &mut Vec<u8>) -> Result<u64, Error> {
-            self.$($entered)+.seat.newest(most, text)
-        }
-
-        /// From now on notes go to `takes`, as by `pass_on`, before the journal is full: about a thousand at a time, and 4096 at most. No call copies more
-        /// than 128 as text or 256 in bytes, which is some 20 µs; one in ten of these calls is that of `takes`. A journal that has room for fewer than
-        /// 2048, or is nearly full by now, goes out when it is full. So `JournalFull` comes only if the journal has room for fewer notes than one call may
-        /// need. What is kept at the end goes out by `pass_on`. If `takes` panics, the bytes go first to who takes notes the next time, or out by `pass_on`.
-        pub fn keep_notes_by(&mut self, takes: impl FnMut(&[u8]) + Send + 'static) {
-            self.$($entered)+.seat.keep_notes_by(Box::new(takes));
-        }
-    };
-}
-pub(super) use submissions;

@@ -1,11 +1,12 @@
 //! A core of a house.
 
-use super::actor::{submissions, Actor, Ticket};
+use super::actor::{Actor, Ticket};
 use super::board::{Shows, Stats};
 use super::cx::Cx;
 use super::lanes::{Bell, Ringer, LONGEST_SLEEP};
 use super::names::{Name, Outcome, Step, Turn};
 use super::runs::{hand_back, turn, turns, MOST};
+use super::submissions::submissions;
 use crate::clock::Clock;
 use crate::core::Mode;
 use crate::error::Error;

@@ -1,7 +1,8 @@
 //! What the jobs of a core may do.
 
-use super::actor::{submissions, Actor, Ticket};
+use super::actor::{Actor, Ticket};
 use super::names::{Name, Outcome};
+use super::submissions::submissions;
 use crate::error::Error;
 use std::marker::PhantomData;
 

@@ -206,3 +206,13 @@ pub enum Outcome<J> {
     /// The order that is no job was answered.
     Answered(Answer),
 }
+
+impl<J> Outcome<J> {
+    /// The job that comes back, if it does.
+    pub(super) fn into_job(self) -> Option<J> {
+        match self {
+            Outcome::Back(_, job) => Some(job),
+            Outcome::Done(_) | Outcome::Answered(_) => None,
+        }
+    }
+}

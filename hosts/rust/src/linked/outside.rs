@@ -1,13 +1,14 @@
 //! The outside actor.
 
-use super::actor::{submissions, Actor, Ticket};
+use super::actor::{Actor, Ticket};
 use super::lanes::LONGEST_SLEEP;
 use super::names::{Name, Outcome};
+use super::submissions::submissions;
 use crate::core::Mode;
 use crate::error::Error;
 use std::time::{Duration, Instant};
 
-/// The outside actor: the part of the host that belongs to no core. It submits, and receives nothing.
+/// The outside actor: the part of the host that belongs to no core. It submits, and receives nothing. [`Outside::into_callers`] lets several threads do so.
 ///
 /// ```
 /// use fairexec::linked::{Answer, Config, House, Outcome, Step};
@@ -26,6 +27,9 @@ use std::time::{Duration, Instant};
 /// // Nobody asks for this outcome, nor for that of `close_all`.
 /// outside.detach(job)?;
 /// let closes = outside.close_core(0, Mode::Finish)?;
+/// assert!(cores[0].deliver()?);
+/// let mut names = Vec::new();
+/// assert_eq!((outside.collect_names(&mut names)?, names), (1, vec![closes.name()]));
 /// outside.detach(closes)?;
 /// outside.close_all(Mode::Return)?;
 /// assert!(cores[0].deliver()?);
@@ -60,6 +64,10 @@ impl<J> Outside<J> {
 
     fn wait_until(&mut self, ticket: &Ticket, end: Option<Instant>) -> Result<Outcome<J>, Error> {
         let mut actor = self.actor.enter();
+        match actor.redeem_early(ticket) {
+            Err(Error::Pending) => {}
+            told => return told,
+        }
         let mut is_last = false;
         loop {
             actor.collect()?;

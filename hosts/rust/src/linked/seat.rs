@@ -283,6 +283,19 @@ impl Seat {
         Ok(count)
     }
 
+    /// Puts the names of the outcomes of the last collection behind these, in the order in which they came. So many they were, and no call that
+    /// makes notes came behind it.
+    pub(super) fn came(&mut self, count: u64, names: &mut Vec<Name>) -> Result<(), Error> {
+        let NoteCounts { kept, .. } = self.counts()?;
+        for place in kept - count..kept {
+            let mut name = raw::fx_name::default();
+            // SAFETY: as above.
+            refused(unsafe { raw::fx_seat_came(&mut self.handle, place, &mut name) })?;
+            names.push(Name::of(&name));
+        }
+        Ok(())
+    }
+
     /// The number of the submission. Who submits knows the rest of its name.
     #[inline]
     pub(super) fn submit(&mut self, to: u32, queue: u32, job: u32) -> Result<u64, Error> {
