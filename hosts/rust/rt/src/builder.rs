@@ -96,7 +96,7 @@ pub struct Builder {
 impl Default for Builder {
     fn default() -> Builder {
         let setup = Setup {
-            reactor_every: Duration::from_micros(50),
+            reactor_every: Duration::from_micros(25),
             slow_poll: None,
             takers: Vec::new(),
             round: Duration::from_micros(10),
@@ -147,7 +147,7 @@ impl Builder {
     }
 
     /// Notes that the journal of each core has room for: those of a whole run if they are kept, else those between two times that they are passed
-    /// on or forgotten. At first these are 2^20, and 4 times the places, or with `Journal::Last` 32 times as many as stay. A note has 48 bytes.
+    /// on or forgotten. At first these are 2^20, and 4 times the places, or with `Journal::Last` 64 times as many as stay. A note has 48 bytes.
     pub fn notes(mut self, notes: u32) -> Builder {
         self.notes = Some(notes);
         self
@@ -166,7 +166,7 @@ impl Builder {
         self
     }
 
-    /// A core that has work asks its reactor after so much time. At first it is 50 µs.
+    /// A core that has work asks its reactor after so much time. At first it is 25 µs.
     pub fn reactor_every(mut self, time: Duration) -> Builder {
         self.setup.reactor_every = time;
         self
@@ -248,13 +248,14 @@ impl Builder {
         let (house, mut cores, mut outside) = House::open(&config)?;
         self.setup.takers = takers(&journal, &config)?;
         outside.keep(&self.setup.takers[self.cores as usize]);
-        let ports = cores.iter_mut().map(|it| Port::new(it.ringer(), it.shared_stats())).collect();
+        let ports = cores.iter_mut().map(Port::new).collect();
         let (queues, ending) = (std::mem::take(&mut self.queues), Ending::new(self.cores));
         let shared = Arc::new(Shared { ports, queues, places: self.places, ending, barrier: Barrier::default() });
         // Before a core runs, since it may call the others at once.
         for core in &mut cores {
             core.keep(&self.setup.takers[core.number() as usize]);
             make_queues(core, &shared.queues)?;
+            shared.ports[core.number() as usize].tell(core);
         }
         let mut stops = self.signals.map(Stops::new).transpose()?;
         let setup = &self.setup;

@@ -2,16 +2,23 @@
 
 use crate::builder::Setup;
 use crate::local::{Job, Local, Sending};
+use crate::own::Own;
+use crate::shared::Port;
 use crate::Error;
-use fairexec::linked::{Answer, Core, Cx, Outcome, Step, Ticket};
+use fairexec::linked::{Answer, Core, Cx, Outcome, Step};
 use fairexec::wall_clock;
 use fairexec::Mode;
-use std::collections::VecDeque;
 use std::sync::atomic::Ordering;
 use std::time::Duration;
 
-/// A core that has work tells its statistics after so many nanoseconds.
-const SHOWN_EVERY: u64 = 20_000_000;
+/// A core that did something tells its statistics once so many nanoseconds are over since the last time: while it runs, or as it wakes from a sleep,
+/// which isn't longer.
+const TOLD_EVERY: u64 = 10_000_000;
+
+/// And not before so many times as long as that took are over, which the library's time for each queue makes long if there are many. But a core that
+/// was interrupted tells them after a second.
+const TOLD_PART: u64 = 200;
+const TOLD_AT_LAST: u64 = 1_000_000_000;
 
 /// How long a core sleeps if the library allows so much. Under `--cfg long_sleep`, by which `tests/rt` compiles, it is longer than any test waits,
 /// so that a ring that is lost shows.
@@ -22,79 +29,22 @@ fn longest_sleep(allowed: Duration) -> Duration {
     allowed
 }
 
-/// The core's submissions to itself: each is a run of a task. Their numbers follow each other.
-struct Own {
-    // From the number `first` on. None is no run of a task, or its outcome is known.
-    tickets: VecDeque<Option<Ticket>>,
-    first: u64,
-    // Numbers of runs that ended, whose outcomes aren't redeemed yet.
-    ended: Vec<u64>,
-    // By the queue, how many tasks it has inside.
-    inside: Vec<u32>,
-    // So many may be: none is kept out by another queue's.
-    most: u32,
-}
-
-impl Own {
-    fn new(queues: usize, places: u32) -> Own {
-        let most = (places / (queues as u32 + 1)).max(1);
-        Own { tickets: VecDeque::new(), first: 1, ended: Vec::new(), inside: vec![0; queues], most }
-    }
-
-    /// How many more tasks of a queue may come inside.
-    fn room(&self, queue: u32) -> u32 {
-        self.most - self.inside[queue as usize]
-    }
-
-    /// A run ended, and its task is inside no more.
-    fn end(&mut self, number: u64, queue: u32) {
-        self.ended.push(number);
-        self.inside[queue as usize] -= 1;
-    }
-
-    fn add(&mut self, ticket: Ticket, queue: u32) {
-        let number = ticket.name().number;
-        if self.tickets.is_empty() {
-            self.first = number;
-        }
-        // Numbers between belong to orders.
-        while self.first + (self.tickets.len() as u64) < number {
-            self.tickets.push_back(None);
-        }
-        self.tickets.push_back(Some(ticket));
-        self.inside[queue as usize] += 1;
-    }
-
-    /// Redeems one run. False if its outcome isn't there yet.
-    fn redeem(&mut self, core: &mut Core<Job>, number: u64) -> Result<bool, Error> {
-        let at = (number - self.first) as usize;
-        let Some(Some(ticket)) = self.tickets.get(at) else { return Ok(true) };
-        match core.redeem(ticket) {
-            Err(fairexec::Error::Pending) => return Ok(false),
-            // A job that came back is a task that is dropped.
-            told => drop(told?),
-        }
-        self.tickets[at] = None;
-        while let Some(None) = self.tickets.front() {
-            self.tickets.pop_front();
-            self.first += 1;
-        }
-        Ok(true)
-    }
-}
-
 /// A core and what its thread has.
 pub(crate) struct Driver<'a> {
     local: &'a Local,
     core: &'a mut Core<Job>,
     setup: &'a Setup,
     own: Own,
+    // When the statistics are told again, if something was done since then.
+    tells: u64,
+    is_behind: bool,
 }
 
 /// One run of a job.
 fn run(local: &Local, job: &mut Job, cx: &mut Cx<'_, Job>, own: &mut Own, setup: &Setup) -> Step {
     let queue = cx.queue();
     local.begin(queue);
+    own.runs.begin();
     let step = match job {
         Job::Task(slot) => {
             *slot = slot.take().and_then(|turn| local.poll(turn));
@@ -136,7 +86,7 @@ fn tell_slow(local: &Local, queue: u32, setup: &Setup) {
 impl<'a> Driver<'a> {
     pub(crate) fn new(local: &'a Local, core: &'a mut Core<Job>, setup: &'a Setup) -> Driver<'a> {
         let own = Own::new(local.ready.len(), local.shared.places);
-        Driver { local, core, setup, own }
+        Driver { local, core, setup, own, tells: 0, is_behind: true }
     }
 
     /// Runs tasks until the executor closes, or until the core fails: then it tells the others, and hands back whatever is inside.
@@ -157,58 +107,79 @@ impl<'a> Driver<'a> {
     }
 
     fn run_until_end(&mut self) -> Result<(), Error> {
-        let (mut polled, mut shown, mut has_told) = (0, 0, false);
+        let (mut now, mut polled, mut has_told) = (wall_clock(), 0, false);
         let reactor_every = self.setup.reactor_every.as_nanos() as u64;
         while !self.local.shared.ending.is_closing() {
             if !has_told && self.local.shared.ending.is_stopping() {
                 has_told = true;
                 self.local.tell_stop();
             }
-            let did = self.step()?;
-            let now = wall_clock();
-            if !did || now - shown >= SHOWN_EVERY {
-                shown = now;
-                self.show(did);
+            let did = self.step(now)?;
+            now = wall_clock();
+            let is_idle = !did || self.is_idle();
+            self.is_behind |= did;
+            // Nobody wakes it from a long sleep to tell them.
+            if self.is_behind && (now >= self.tells || (cfg!(long_sleep) && is_idle)) {
+                self.tell(Port::try_tell);
+                self.tells = now + (TOLD_PART * (wall_clock() - now)).clamp(TOLD_EVERY, TOLD_AT_LAST);
             }
-            if did && now - polled < reactor_every {
-                continue;
-            }
-            if did {
+            let asks = now - polled >= reactor_every;
+            if is_idle {
+                self.tell_quiet(has_told);
+                self.sleep(now, has_told, asks)?;
+            } else if asks {
                 self.local.reactor.wait(Duration::ZERO, Duration::MAX)?;
             } else {
-                self.tell_quiet(has_told);
-                self.sleep(now, has_told)?;
+                continue;
             }
-            polled = wall_clock();
-            self.local.reactor.wake();
+            if self.local.reactor.wake() {
+                now = wall_clock();
+                polled = now;
+            }
         }
         Ok(())
     }
 
     /// One round. Whether anything happened.
-    fn step(&mut self) -> Result<bool, Error> {
+    fn step(&mut self, now: u64) -> Result<bool, Error> {
         let local = self.local;
-        local.timers.fire(wall_clock());
+        local.timers.fire(now);
         let mut did = local.take_mail();
         did |= self.submit_ready()?;
+        did |= self.round()?;
         did |= self.send()?;
-        let (setup, own) = (self.setup, &mut self.own);
-        did |= self.core.round(|job, cx| run(local, job, cx, own, setup))?;
-        self.redeem_own()?;
+        self.own.redeem_ended(self.core)?;
         did |= self.redeem_sent()?;
         Ok(did)
     }
 
-    /// Waits for an event, a timer, or a ring. What comes before the ring can be seen is found by the look: `wait_by` has the argument.
+    /// Delivers, runs jobs and collects. Whether anything happened.
+    fn round(&mut self) -> Result<bool, Error> {
+        let (local, setup, own) = (self.local, self.setup, &mut self.own);
+        own.runs.clear();
+        Ok(self.core.round(|job, cx| run(local, job, cx, own, setup))?)
+    }
+
+    /// Whether a step that did something has left nothing to do: its round ended since no queue had work, and nothing became ready meanwhile.
+    fn is_idle(&self) -> bool {
+        let local = self.local;
+        self.own.runs.ran_out(self.setup.round)
+            && self.own.has_redeemed()
+            && !local.has_some_ready()
+            && local.outbox.iter().all(|it| it.borrow().is_empty())
+    }
+
+    /// Waits for an event, a timer, or a ring. What comes before the ring can be seen is found by the look: `wait_by` has the argument. If it finds
+    /// something, the reactor is asked if it `asks`.
     ///
-    /// Behind a round that did nothing the core has no task that could run, since each that became ready was submitted before that round, and no
-    /// room for what is to be sent. So what may come is mail, a link that shows something, and the end.
-    fn sleep(&mut self, now: u64, has_told: bool) -> Result<(), Error> {
+    /// Behind a step that left nothing to do, and behind one that did nothing, the core has no task that could run, since each that became ready was
+    /// submitted before the round, and no room for what is to be sent. So what may come is mail, a link that shows something, and the end.
+    fn sleep(&mut self, now: u64, has_told: bool, asks: bool) -> Result<(), Error> {
         let local = self.local;
         let (port, ending) = (&local.shared.ports[local.number as usize], &local.shared.ending);
         let next = local.timers.next_after(now).unwrap_or(Duration::MAX);
         let looks = || port.has_mail() || ending.is_closing() || ending.is_stopping() != has_told;
-        self.core.wait_by(looks, |longest| local.reactor.wait(longest_sleep(longest), next))?;
+        self.core.wait_by(looks, |longest| if longest.is_zero() && !asks { Ok(()) } else { local.reactor.wait(longest_sleep(longest), next) })?;
         Ok(())
     }
 
@@ -277,19 +248,6 @@ impl<'a> Driver<'a> {
         Ok(did)
     }
 
-    fn redeem_own(&mut self) -> Result<(), Error> {
-        let mut at = 0;
-        while at < self.own.ended.len() {
-            let number = self.own.ended[at];
-            if self.own.redeem(self.core, number)? {
-                self.own.ended.swap_remove(at);
-            } else {
-                at += 1;
-            }
-        }
-        Ok(())
-    }
-
     fn redeem_sent(&mut self) -> Result<bool, Error> {
         let mut did = false;
         for sent in &self.local.sent {
@@ -343,14 +301,8 @@ impl<'a> Driver<'a> {
         local.drop_tasks();
         loop {
             local.take_mail();
-            let (setup, own) = (self.setup, &mut self.own);
-            let did = self.core.round(|job, cx| run(local, job, cx, own, setup))?;
-            let numbers = self.own.first..self.own.first + self.own.tickets.len() as u64;
-            for number in numbers {
-                if number >= self.own.first {
-                    self.own.redeem(self.core, number)?;
-                }
-            }
+            let did = self.round()?;
+            self.own.redeem_all(self.core)?;
             self.redeem_sent()?;
             // What came back may have been a task's last reason to live, or a call that starts one.
             local.drop_tasks();
@@ -362,20 +314,19 @@ impl<'a> Driver<'a> {
                 self.core.wait_by(|| port.has_mail(), |longest| local.reactor.wait(longest_sleep(longest), Duration::MAX))?;
             }
         }
-        self.show(true);
+        self.tell(Port::tell);
         Ok(())
     }
 
-    /// Tells the statistics to other threads. Those of the library a core tells by itself before it sleeps.
-    fn show(&mut self, is_busy: bool) {
+    /// Leaves the statistics for other threads.
+    fn tell(&mut self, leaves: impl FnOnce(&Port, &mut Core<Job>)) {
         let local = self.local;
         let port = &local.shared.ports[local.number as usize];
         port.tasks.store(local.alive.borrow().len() as u64, Ordering::Relaxed);
         if let Some(taker) = &self.setup.takers[local.number as usize] {
             port.journal_bytes.store(taker.bytes(), Ordering::Relaxed);
         }
-        if is_busy {
-            self.core.show_stats();
-        }
+        leaves(port, self.core);
+        self.is_behind = false;
     }
 }

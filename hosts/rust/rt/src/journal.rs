@@ -11,7 +11,7 @@ use std::sync::{Arc, Mutex};
 /// What becomes of the notes that each core makes of what it did.
 ///
 /// A note costs the same in each case, some nanoseconds. `Parts` pays some 50 more for its bytes. Its text takes some 250, which `Last` pays for as
-/// many notes as stay, once for each half of the journal that is filled: with the room that it has at first, one note of 16.
+/// many notes as stay, once for each half of the journal that is filled: with the room that it has at first, one note of 32.
 ///
 /// ```
 /// use fairexec_rt::{yield_now, Executor, Journal};
@@ -54,7 +54,7 @@ impl Journal {
         let few = 4 * places.max(64);
         match self {
             Journal::Off | Journal::Parts(_) => few,
-            Journal::Last(most) => u32::try_from(most.saturating_mul(32)).unwrap_or(u32::MAX).clamp(few, MOST_NOTES),
+            Journal::Last(most) => u32::try_from(most.saturating_mul(64)).unwrap_or(u32::MAX).clamp(few, MOST_NOTES),
             Journal::Keep => MOST_NOTES,
         }
     }

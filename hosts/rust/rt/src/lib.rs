@@ -42,6 +42,7 @@ mod journal;
 mod local;
 mod log;
 pub mod net;
+mod own;
 mod pin;
 mod reactor;
 mod reads;

@@ -68,6 +68,8 @@ pub(crate) struct Local {
     /// By the core.
     pub(crate) outbox: Vec<RefCell<VecDeque<Sending>>>,
     pub(crate) sent: Vec<RefCell<Sent>>,
+    // Room for mail.
+    mail: RefCell<Vec<Mail>>,
     /// Who awaits a stop.
     pub(crate) stopping: RefCell<Slab<Waker>>,
     /// Whether the core told that it has nothing to do.
@@ -115,6 +117,7 @@ impl Local {
             slice: Cell::new(0),
             outbox: (0..cores).map(|_| RefCell::default()).collect(),
             sent: (0..cores).map(|_| RefCell::new(sent())).collect(),
+            mail: RefCell::default(),
             stopping: RefCell::default(),
             is_quiet: Cell::new(false),
             has_closed: Cell::new(false),
@@ -178,7 +181,9 @@ impl Local {
         if !port.has_mail() {
             return false;
         }
-        for mail in port.take() {
+        let mut all = self.mail.take();
+        port.take(&mut all);
+        for mail in all.drain(..) {
             match mail {
                 Mail::Woken(queue, turn) => self.take_woken(queue, turn),
                 Mail::Shares(queue, shares, slot) => self.outbox[self.number as usize].borrow_mut().push_back(Sending::Shares(queue, shares, slot)),
@@ -191,6 +196,7 @@ impl Local {
                 }
             }
         }
+        self.mail.replace(all);
         true
     }
 

@@ -100,6 +100,8 @@ pub(crate) struct Reactor {
     timer: Timer,
     sources: RefCell<Slab<Rc<Source>>>,
     events: RefCell<Events>,
+    // Whether nobody was woken for the events of the last wait.
+    has_waited: Cell<bool>,
 }
 
 impl Reactor {
@@ -108,7 +110,16 @@ impl Reactor {
         let (epoll, timer) = (Epoll::new()?, Timer::new()?);
         let bell = Bell::new(epoll.registry(), NO_FILE)?;
         epoll.registry().register(&mut SourceFd(&timer.0.as_raw_fd()), NO_FILE, Interest::READABLE)?;
-        Ok((Reactor { epoll: RefCell::new(epoll), timer, sources: RefCell::default(), events: RefCell::new(Events::with_capacity(1024)) }, bell))
+        Ok((
+            Reactor {
+                epoll: RefCell::new(epoll),
+                timer,
+                sources: RefCell::default(),
+                events: RefCell::new(Events::with_capacity(1024)),
+                has_waited: Cell::new(false),
+            },
+            bell,
+        ))
     }
 
     /// Waits for events, for so long at most, until a timer is due or until somebody rings.
@@ -117,19 +128,24 @@ impl Reactor {
         if next < longest {
             self.timer.set(next)?;
         }
+        self.has_waited.set(true);
         match self.epoll.borrow_mut().poll(&mut self.events.borrow_mut(), Some(longest)) {
             Err(error) if error.kind() != ErrorKind::Interrupted => Err(error),
             _ => Ok(()),
         }
     }
 
-    /// Wakes who waits for the events that came.
-    pub(crate) fn wake(&self) {
+    /// Wakes who waits for the events that came. False if there was no wait since the last time.
+    pub(crate) fn wake(&self) -> bool {
+        if !self.has_waited.replace(false) {
+            return false;
+        }
         for event in self.events.borrow().iter() {
             let source = self.sources.borrow().get(event.token().0).map(Rc::clone);
             let wakers = source.map(|it| it.tell(event));
             wakers.into_iter().flatten().flatten().for_each(Waker::wake);
         }
+        true
     }
 
     fn add(&self, fd: RawFd) -> io::Result<(usize, Rc<Source>)> {

@@ -4,6 +4,7 @@ use crate::builder::{Here, Setup};
 use crate::drive::Driver;
 use crate::journal::Notes;
 use crate::local::{on_core, Job, Local};
+use crate::own::clock;
 use crate::reactor::Reactor;
 use crate::shared::{Queue, QueueSetup, Shared};
 use crate::signal::Stops;
@@ -132,6 +133,7 @@ where
     let (reactor, bell) = Reactor::new()?;
     // A ring that fails has no end of the wait, and nobody else to tell. An eventfd fails if the process has closed it.
     core.set_bell(move || bell.wake().expect("an eventfd takes a ring"));
+    core.set_clock(clock);
     core.set_round_time(setup.round.as_nanos() as u64);
     on_core(Local::new(number, Arc::clone(&shared), reactor), |local| {
         // However the core ends: nobody waits for a task of it, or for what is in its mail.

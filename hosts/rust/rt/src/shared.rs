@@ -2,10 +2,11 @@
 
 use crate::barrier::Barrier;
 use crate::call::{Call, Slot, Start};
+use crate::local::Job;
 use crate::report::{CoreStats, QueueStats};
 use crate::stop::Ending;
 use crate::task::Turn;
-use fairexec::linked::{Ringer, Stats};
+use fairexec::linked::{Core, Ringer};
 use std::sync::atomic::{AtomicBool, AtomicU64, Ordering};
 use std::sync::{Arc, Mutex, MutexGuard, PoisonError};
 use std::time::Duration;
@@ -76,16 +77,48 @@ pub(crate) struct Port {
     has_mail: AtomicBool,
     // None once the core has ended.
     mail: Mutex<Option<Vec<Mail>>>,
-    stats: Stats,
+    counts: Mutex<Counts>,
     /// What the library doesn't count: tasks that haven't ended, and bytes of the journal that went to a file.
     pub(crate) tasks: AtomicU64,
     pub(crate) journal_bytes: AtomicU64,
 }
 
+/// What the library counts of a core, all at one time.
+struct Counts {
+    turns: u64,
+    queues: Vec<fairexec::QueueStats>,
+}
+
+impl Counts {
+    fn of(core: &mut Core<Job>) -> Counts {
+        let stats = core.stats();
+        Counts { turns: stats.turns, queues: (0..stats.queues).filter_map(|it| core.stats_of(it).ok()).collect() }
+    }
+}
+
 impl Port {
-    pub(crate) fn new(ringer: Ringer, stats: Stats) -> Port {
-        let mail = Mutex::new(Some(Vec::new()));
-        Port { ringer, has_mail: AtomicBool::new(false), mail, stats, tasks: AtomicU64::new(0), journal_bytes: AtomicU64::new(0) }
+    pub(crate) fn new(core: &mut Core<Job>) -> Port {
+        Port {
+            ringer: core.ringer(),
+            has_mail: AtomicBool::new(false),
+            mail: Mutex::new(Some(Vec::new())),
+            counts: Mutex::new(Counts::of(core)),
+            tasks: AtomicU64::new(0),
+            journal_bytes: AtomicU64::new(0),
+        }
+    }
+
+    /// Leaves the counts of this core for other threads.
+    pub(crate) fn tell(&self, core: &mut Core<Job>) {
+        let counts = Counts::of(core);
+        *lock(&self.counts) = counts;
+    }
+
+    /// The same, unless a thread reads them just now: a core that runs waits for none.
+    pub(crate) fn try_tell(&self, core: &mut Core<Job>) {
+        if let Ok(mut counts) = self.counts.try_lock() {
+            *counts = Counts::of(core);
+        }
     }
 
     /// Leaves mail, and then rings: the order that `wait_by` of the wrapper asks for. A core that has ended takes none: the mail is dropped, which tells
@@ -115,11 +148,13 @@ impl Port {
         self.has_mail.load(Ordering::SeqCst)
     }
 
-    /// Takes all mail.
-    pub(crate) fn take(&self) -> Vec<Mail> {
+    /// Takes all mail, and leaves this room for more.
+    pub(crate) fn take(&self, room: &mut Vec<Mail>) {
         let mut all = lock(&self.mail);
         self.has_mail.store(false, Ordering::SeqCst);
-        all.as_mut().map(std::mem::take).unwrap_or_default()
+        if let Some(all) = &mut *all {
+            std::mem::swap(all, room);
+        }
     }
 }
 
@@ -148,8 +183,8 @@ impl Shared {
     }
 
     fn stats_of(&self, core: u32, port: &Port) -> CoreStats {
-        let (stats, queues) = port.stats.read();
-        let queues = self.queues.iter().zip(queues).map(|(setup, it)| QueueStats {
+        let counts = lock(&port.counts);
+        let queues = self.queues.iter().zip(&counts.queues).map(|(setup, it)| QueueStats {
             name: setup.name.clone(),
             shares: it.shares,
             picks: it.picks,
@@ -157,7 +192,7 @@ impl Shared {
             virtual_runtime: it.virtual_runtime,
         });
         let [tasks, journal_bytes] = [&port.tasks, &port.journal_bytes].map(|it| it.load(Ordering::Relaxed));
-        CoreStats { core, turns: stats.turns, tasks, queues: queues.collect(), journal_bytes }
+        CoreStats { core, turns: counts.turns, tasks, queues: queues.collect(), journal_bytes }
     }
 }
 
@@ -187,7 +222,7 @@ impl Handle {
         self.0.cores()
     }
 
-    /// The counts of all cores, at most some 20 ms old.
+    /// The counts of all cores, some 20 ms old at most, or up to a second with many queues.
     pub fn stats(&self) -> Vec<CoreStats> {
         self.0.stats()
     }

@@ -244,7 +244,7 @@ pub fn set_shares(core: u32, queue: Queue, shares: u32) -> Call<()> {
     })
 }
 
-/// The counts of all cores, at most some 20 ms old.
+/// The counts of all cores, some 20 ms old at most, or up to a second with many queues.
 ///
 /// # Panics
 ///

@@ -126,8 +126,8 @@ fn a_handle_tells_whether_its_task_has_ended() {
     assert!(kept.lock().unwrap().take().unwrap().is_finished());
 }
 
-#[test]
-fn queues_have_time_by_their_shares() {
+/// What a queue has of the time, ten to one beside another, in a run of a second.
+fn part_of_ten_to_one() -> f64 {
     let report = Executor::builder()
         .queue("first", 1000)
         .queue("background", 100)
@@ -147,10 +147,16 @@ fn queues_have_time_by_their_shares() {
         })
         .unwrap();
     let [first, background] = [0, 1].map(|it| report.cores[0].queues[it].time.as_secs_f64());
-    let part = first / (first + background);
-    // Ten to one, but for the last run, which a busy machine may set aside for some 10 ms.
-    assert!((0.86..0.95).contains(&part), "{part}");
     assert_eq!(report.cores[0].queues[1].name, "background");
+    first / (first + background)
+}
+
+#[test]
+fn queues_have_time_by_their_shares() {
+    // Ten to one, except for the last run, which a busy machine may set aside for long. So the middle of five runs tells.
+    let mut parts: Vec<_> = (0..5).map(|_| part_of_ten_to_one()).collect();
+    parts.sort_by(f64::total_cmp);
+    assert!((0.86..0.95).contains(&parts[2]), "{parts:?}");
 }
 
 #[test]

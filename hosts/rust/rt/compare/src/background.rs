@@ -2,12 +2,18 @@
 
 use std::future::Future;
 use std::sync::atomic::{AtomicU64, Ordering};
+use std::time::Duration;
 
 static BYTES: AtomicU64 = AtomicU64::new(0);
 
 /// How many bytes all tasks have summed up.
 pub fn bytes() -> u64 {
     BYTES.load(Ordering::Relaxed)
+}
+
+/// How long a slice of such a task is: 2 microseconds, or as many as the environment's SLICE says.
+pub fn slice() -> Duration {
+    Duration::from_micros(std::env::var("SLICE").ok().and_then(|it| it.parse().ok()).unwrap_or(2))
 }
 
 /// One task. It lets others run where `yields` does so, which is asked behind each KiB.

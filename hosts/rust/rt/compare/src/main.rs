@@ -12,7 +12,7 @@ use std::collections::BTreeMap;
 use std::io;
 use std::net::SocketAddr;
 use std::rc::Rc;
-use std::sync::Arc;
+use std::sync::{Arc, LazyLock};
 use std::time::{Duration, Instant};
 use tokio::io::{AsyncReadExt, AsyncWriteExt};
 use tokio::net::{TcpListener, TcpStream};
@@ -145,12 +145,12 @@ fn listen(port: u16) -> io::Result<TcpListener> {
 }
 
 /// Slices of a task that computes are as long as those of the example.
-const SLICE: Duration = Duration::from_micros(2);
+static SLICE: LazyLock<Duration> = LazyLock::new(background::slice);
 
 thread_local!(static BEGAN: Cell<Option<Instant>> = const { Cell::new(None) });
 
 async fn yield_if_needed() {
-    if BEGAN.get().is_none_or(|it| it.elapsed() >= SLICE) {
+    if BEGAN.get().is_none_or(|it| it.elapsed() >= *SLICE) {
         tokio::task::yield_now().await;
         BEGAN.set(Some(Instant::now()));
     }

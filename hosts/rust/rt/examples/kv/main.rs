@@ -18,8 +18,7 @@ use fairexec_rt::{spawn_local, stats, submit, yield_if_needed, Call, Executor, H
 use futures_lite::AsyncWriteExt;
 use resp::{number, parse};
 use shard::{bulk, error, key_of, text, Answer, Key, Shard};
-use std::io::{self, Write};
-use std::{cell::RefCell, path::PathBuf, time::Duration};
+use std::{cell::RefCell, io, io::Write, iter::once, path::PathBuf, time::Duration};
 
 const REQUESTS: Queue = Queue::FIRST;
 const COMPACTION: Queue = Queue::new(1);
@@ -40,17 +39,15 @@ enum Part {
     There(Call<Answer>),
 }
 
-/// What is told of the answers of all parts.
-enum Join {
-    First,
-    Sum,
-    Array,
-}
-
-type Does = (Vec<Part>, Join);
+/// A command that was begun: its first part, the others, and whether they have one answer: the sum of their numbers, or that of the first.
+struct Does(Part, Vec<Part>, bool);
 
 fn now(answer: Answer) -> Does {
-    (vec![Part::Here(answer)], Join::First)
+    all(once(Part::Here(answer)), true)
+}
+
+fn all(mut parts: impl Iterator<Item = Part>, is_one: bool) -> Does {
+    Does(parts.next().expect("a command has a part"), parts.collect(), is_one)
 }
 
 /// Begins a part of a command on a core.
@@ -78,37 +75,39 @@ fn on_key(here: &Here, key: &[u8], does: impl FnOnce(&mut Shard, Key) -> Answer 
 
 fn info() -> Answer {
     let mut told = format!("# Server\r\nredis_version:7.0.0\r\nserver:fairexec-rt kv\r\nbackground_bytes:{}\r\n# Queues\r\n", background::bytes());
-    for (core, it) in stats().into_iter().flat_map(|core| core.queues.into_iter().map(move |it| (core.core, it))) {
+    for (core, it) in stats().iter().flat_map(|core| core.queues.iter().map(|it| (core.core, it))) {
         told += &format!("core{core}_{}:shares={},picks={},ms={}\r\n", it.name, it.shares, it.picks, it.time.as_millis());
     }
-    Answer::Text(bulk(told.as_bytes()))
+    text(bulk(told.as_bytes()))
 }
 
 fn command(here: &Here, words: &[&[u8]]) -> Does {
-    let each = |keys: &[&[u8]], join, does: fn(&mut Shard, Key) -> Answer| (keys.iter().map(|key| on_key(here, key, does)).collect(), join);
-    let all = |join, does: fn(&mut Shard) -> Answer| ((0..u64::from(here.cores())).map(|core| on_core(here, core, does)).collect(), join);
+    let each = |keys: &[&[u8]], does: fn(&mut Shard, Key) -> Answer| all(keys.iter().map(|key| on_key(here, key, does)), true);
+    let on_all = |does: fn(&mut Shard) -> Answer| all((0..u64::from(here.cores())).map(|core| on_core(here, core, does)), true);
     let name = words[0].to_ascii_uppercase();
     match (name.as_slice(), &words[1..]) {
         (b"PING", []) => now(text(b"+PONG\r\n")),
-        (b"PING" | b"ECHO", [it]) => now(Answer::Text(bulk(it))),
-        (b"GET", key @ [_]) => each(key, Join::First, Shard::value),
-        (b"MGET", keys @ [_, ..]) => each(keys, Join::Array, Shard::value),
-        (b"DEL", keys @ [_, ..]) => each(keys, Join::Sum, Shard::delete),
-        (b"EXISTS", keys @ [_, ..]) => each(keys, Join::Sum, |it, key| Answer::Int(it.get(&key).is_some().into())),
-        (b"INCR", key @ [_]) => each(key, Join::First, Shard::increase),
-        (b"TTL", key @ [_]) => each(key, Join::First, Shard::left),
-        (b"DBSIZE", []) => all(Join::Sum, |it| Answer::Int(it.entries.len() as i64)),
-        (b"FLUSHALL", [] | [_]) => all(Join::First, Shard::flush),
+        (b"PING" | b"ECHO", [it]) => now(text(bulk(it))),
+        (b"GET", key @ [_]) => each(key, Shard::value),
+        (b"MGET", keys @ [_, ..]) => {
+            let count = Part::Here(text(format!("*{}\r\n", keys.len()).into_bytes()));
+            all(once(count).chain(keys.iter().map(|key| on_key(here, key, Shard::value))), false)
+        }
+        (b"DEL", keys @ [_, ..]) => each(keys, Shard::delete),
+        (b"EXISTS", keys @ [_, ..]) => each(keys, |it, key| Answer::Int(it.get(&key).is_some().into())),
+        (b"INCR", key @ [_]) => each(key, Shard::increase),
+        (b"TTL", key @ [_]) => each(key, Shard::left),
+        (b"DBSIZE", []) => on_all(|it| Answer::Int(it.entries.len() as i64)),
+        (b"FLUSHALL", [] | [_]) => on_all(Shard::flush),
         (b"SET", [key, value, options @ ..]) => set(here, key, value, options).unwrap_or_else(|| now(error("syntax error"))),
-        (b"MSET", pairs @ [_, ..]) if pairs.len() % 2 == 0 => (pairs.chunks(2).map(|it| put(here, it[0], it[1], None, false)).collect(), Join::First),
+        (b"MSET", pairs @ [_, ..]) if pairs.len() % 2 == 0 => all(pairs.chunks(2).map(|it| put(here, it[0], it[1], None, false)), true),
         (b"EXPIRE", [key, seconds]) => match number(seconds) {
-            Some(seconds) => (vec![on_key(here, key, move |it, key| it.expire(key, seconds))], Join::First),
+            Some(seconds) => all(once(on_key(here, key, move |it, key| it.expire(key, seconds))), true),
             None => now(error("value is not an integer or out of range")),
         },
         (b"SCAN", [cursor, options @ ..]) => scan(here, cursor, options).unwrap_or_else(|| now(error("invalid cursor"))),
         (b"INFO", _) => now(info()),
-        (b"CONFIG", [get, name]) if get.eq_ignore_ascii_case(b"GET") => now(Answer::Text([b"*2\r\n", bulk(name).as_slice(), &bulk(b"")].concat())),
-        (b"COMMAND", _) => now(text(b"*0\r\n")),
+        (b"CONFIG", [get, name]) if get.eq_ignore_ascii_case(b"GET") => now(text([b"*2\r\n", bulk(name).as_slice(), &bulk(b"")].concat())),
         (b"CLIENT", [_, ..]) | (b"QUIT", _) => now(text(b"+OK\r\n")),
         (name, _) if COMMANDS.split(' ').any(|it| it.as_bytes() == name) => {
             now(error(&format!("wrong number of arguments for '{}' command", name.to_ascii_lowercase().escape_ascii())))
@@ -131,7 +130,7 @@ fn set(here: &Here, key: &[u8], value: &[u8], options: &[&[u8]]) -> Option<Does>
             _ => return None,
         }
     }
-    Some((vec![put(here, key, value, ttl, is_new)], Join::First))
+    Some(all(once(put(here, key, value, ttl, is_new)), true))
 }
 
 /// A cursor is a hash, and 0 is the end.
@@ -140,72 +139,72 @@ fn scan(here: &Here, cursor: &[u8], options: &[&[u8]]) -> Option<Does> {
     let count = options.chunks(2).find(|it| it.len() == 2 && it[0].eq_ignore_ascii_case(b"COUNT")).map_or(Some(10), |it| number(it[1]))?;
     let (core, cores) = (core_of(here, cursor), u64::from(here.cores()));
     let next_core = if core + 1 < cores { ((core + 1) << 32).div_ceil(cores) << 32 } else { 0 };
-    Some((vec![on_core(here, core, move |it| it.scan(cursor, count, next_core))], Join::First))
+    Some(all(once(on_core(here, core, move |it| it.scan(cursor, count, next_core))), true))
 }
 
 /// Puts what the parts of a command came to behind what was answered before.
-async fn finish((parts, join): Does, out: &mut Vec<u8>) -> io::Result<()> {
-    if let Join::Array = join {
-        write!(out, "*{}\r\n", parts.len())?;
-    }
-    let mut sum = 0;
-    for (place, part) in parts.into_iter().enumerate() {
+async fn finish(Does(part, parts, is_one): Does, out: &mut Vec<u8>) -> io::Result<()> {
+    let mut sum = None;
+    for (place, part) in once(part).chain(parts).enumerate() {
         let answer = match part {
             Part::Here(answer) => answer,
             Part::There(call) => call.await?,
         };
-        match (&join, answer) {
-            (Join::Sum, Answer::Int(count)) => sum += count,
-            (Join::First, _) if place > 0 => {}
-            (_, Answer::Int(count)) => write!(out, ":{count}\r\n")?,
-            (_, Answer::Text(text)) => out.extend_from_slice(&text),
+        match answer {
+            Answer::Int(count) => sum = Some(sum.unwrap_or(0) + count),
+            _ if is_one && place > 0 => {}
+            Answer::Value(None) => out.extend_from_slice(b"$-1\r\n"),
+            Answer::Value(Some(it)) => {
+                write!(out, "${}\r\n", it.len())?;
+                out.extend_from_slice(&it);
+                out.extend_from_slice(b"\r\n");
+            }
+            Answer::Text(text) => out.extend_from_slice(&text),
         }
     }
-    if let Join::Sum = join {
-        write!(out, ":{sum}\r\n")?;
-    }
-    Ok(())
+    sum.map_or(Ok(()), |it| write!(out, ":{it}\r\n"))
 }
 
-/// The commands that are there whole, begun in their order, the bytes behind them, and whether the connection ends.
-fn begin<'a>(here: &Here, mut input: &'a [u8]) -> (Vec<Does>, &'a [u8], bool) {
-    let (mut batch, mut ends) = (Vec::new(), false);
+/// The commands that are there whole, begun in their order, how many bytes they have, and whether the connection ends.
+fn begin(here: &Here, input: &[u8]) -> (Vec<Does>, usize, bool) {
+    let (mut batch, mut rest, mut ends) = (Vec::new(), input, false);
     while batch.len() < BATCH && !ends {
-        match parse(input) {
+        match parse(rest) {
             Ok(None) => break,
             Ok(Some((words, behind))) => {
-                input = behind;
+                rest = behind;
                 ends = words.first().is_some_and(|it| it.eq_ignore_ascii_case(b"QUIT"));
                 batch.extend((!words.is_empty()).then(|| command(here, &words)));
             }
-            Err(text) => {
-                batch.push(now(error(text)));
-                ends = true;
-            }
+            Err(text) => (ends, _) = (true, batch.push(now(error(text)))),
         }
     }
-    (batch, input, ends)
+    (batch, input.len() - rest.len(), ends)
 }
 
 async fn serve(here: Here, mut stream: TcpStream, idle: Option<Duration>) -> io::Result<()> {
     let (mut reads, mut input, mut out) = (Reads::new(idle), Vec::new(), Vec::new());
-    loop {
-        let (batch, rest, ends) = begin(&here, &input);
-        let (taken, is_idle) = (input.len() - rest.len(), batch.is_empty());
-        input.drain(..taken);
-        for does in batch {
-            finish(does, &mut out).await?;
+    while reads.read(&stream, &mut input).await? {
+        loop {
+            let (batch, taken, ends) = begin(&here, &input);
+            let is_idle = batch.is_empty() || taken == input.len();
+            input.drain(..taken);
+            for does in batch {
+                finish(does, &mut out).await?;
+            }
+            log::safe().await;
+            stream.write_all(&out).await?;
+            out.clear();
+            match (ends, is_idle) {
+                (true, _) => return Ok(()),
+                (_, true) => break,
+                _ => yield_if_needed().await,
+            }
         }
-        log::safe().await;
-        stream.write_all(&out).await?;
-        out.clear();
         // A connection that waits keeps little room.
         input.shrink_to(1 << 16);
-        if ends || (is_idle && !reads.read(&stream, &mut input).await?) {
-            return Ok(());
-        }
-        yield_if_needed().await;
     }
+    Ok(())
 }
 
 /// What each core does.
@@ -244,7 +243,7 @@ fn main() -> Result<(), fairexec_rt::Error> {
     let journal = flag("--journal").map_or(Journal::Off, |it| it.parse().map_or(Journal::Parts(it.into()), Journal::Last));
     let pin = count("--pin").map_or(Pin::No, |it| Pin::From(it as usize));
     let server = Executor::builder().cores(count("--cores").unwrap_or(2)).pin(pin).journal(journal).stop_on_signals(Duration::from_secs(10));
-    let server = server.queue("requests", 1000).queue("compaction", 100).slice(Duration::from_micros(2));
+    let server = server.queue("requests", 1000).queue("compaction", 100).slice(background::slice());
     let report = server.run(|here| run(here, port, idle, folder.clone(), fsync, background))?;
     eprintln!("kv: {} turns", report.cores.iter().map(|it| it.turns).sum::<u64>());
     Ok(())

@@ -3,25 +3,26 @@
 use crate::log::{append, ALL_DELETED, DELETED};
 use crate::resp::number;
 use fairexec_rt::fs::Log;
-use std::{collections::BTreeMap, time::SystemTime};
+use std::{borrow::Cow, collections::BTreeMap, time::SystemTime};
 
 /// Milliseconds since 1970.
 pub fn now() -> u64 {
     SystemTime::now().duration_since(SystemTime::UNIX_EPOCH).map_or(0, |it| it.as_millis() as u64)
 }
 
-/// What a client is told: a number, which may be summed up, or text of the protocol.
+/// What a client is told: a number, which may be summed up, a value if there is one, or text of the protocol.
 pub enum Answer {
     Int(i64),
-    Text(Vec<u8>),
+    Value(Option<Vec<u8>>),
+    Text(Cow<'static, [u8]>),
 }
 
-pub fn text(bytes: &[u8]) -> Answer {
-    Answer::Text(bytes.to_vec())
+pub fn text(text: impl Into<Cow<'static, [u8]>>) -> Answer {
+    Answer::Text(text.into())
 }
 
 pub fn error(why: &str) -> Answer {
-    Answer::Text(format!("-ERR {why}\r\n").into_bytes())
+    text(format!("-ERR {why}\r\n").into_bytes())
 }
 
 pub fn bulk(bytes: &[u8]) -> Vec<u8> {
@@ -68,12 +69,12 @@ impl Shard {
     }
 
     pub fn value(&mut self, key: Key) -> Answer {
-        Answer::Text(self.get(&key).map_or(b"$-1\r\n".to_vec(), |it| bulk(&it.value)))
+        Answer::Value(self.entries.get(&key).filter(|it| !is_over(it)).map(|it| it.value.clone()))
     }
 
     pub fn set(&mut self, key: Key, value: Vec<u8>, ttl: Option<u64>, is_new: bool) -> Answer {
         if is_new && self.get(&key).is_some() {
-            return text(b"$-1\r\n");
+            return Answer::Value(None);
         }
         self.put(key, value, ttl.map_or(0, |it| now() + it));
         text(b"+OK\r\n")
@@ -117,6 +118,6 @@ impl Shard {
         let mut all = self.entries.range((from, Vec::new())..).filter(|it| !is_over(it.1)).map(|it| it.0);
         let keys: Vec<_> = all.by_ref().take(count.clamp(1, 1000)).map(|it| bulk(&it.1)).collect();
         let next = bulk(all.next().map_or(next_core, |it| it.0).to_string().as_bytes());
-        Answer::Text([b"*2\r\n", next.as_slice(), format!("*{}\r\n", keys.len()).as_bytes(), &keys.concat()].concat())
+        text([b"*2\r\n", next.as_slice(), format!("*{}\r\n", keys.len()).as_bytes(), &keys.concat()].concat())
     }
 }
