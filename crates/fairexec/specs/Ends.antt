@@ -8,11 +8,14 @@ use Rattle.fair_args.specs.declared.unasked.Unasked.TheVariants as unasked
 use Rattle.fairexec_args.specs.declared.asked.What.{What}
 use Rattle.fairexec_args.specs.declared.asked.What.TheVariants.{Run, Threads, Audit, Journal}
 use Rattle.fairexec_script.specs.Faults.{status_of as threads_status}
+use Rattle.text_parts.specs.Faults.{bytes_status}
 use Rattle.text_words.specs.Statuses.{status_of}
 use Rattle.text_words.specs.declared.status.Status.{Status}
 use Rattle.text_words.specs.declared.status.Status.TheVariants as status
 use Rattle.fairexec.specs.Answers.{AuditAnswer, Passed, RunAnswer, ThreadsAnswer}
 use Rattle.fairexec.specs.Bytes.{JudgesBytes, PrintsText}
+use Rattle.fairexec.specs.declared.ended.Ended.{Ended}
+use Rattle.fairexec.specs.declared.ended.Ended.TheVariants.{Ran, OnThreads, Judged, NoText}
 use Rattle.fairexec.specs.Files.{Devices, Judges, Runs, RunsOnThreads}
 
 module _ {R F S : Type 0} (devices : Devices R F S) (at : Passed R S) where
@@ -24,6 +27,13 @@ module _ {R F S : Type 0} (devices : Devices R F S) (at : Passed R S) where
   EndsFor file (Audit false) result = (answer : AuditAnswer) × (result ≡ status_of answer) × Judges devices at file answer
   EndsFor file (Audit true) result = JudgesBytes devices at file result
   EndsFor file Journal result = PrintsText devices at file result
+
+-- the status of what came to this
+abbrev pub status_ended : Ended → Status
+status_ended (Ran answer) = status_of answer
+status_ended (OnThreads answer) = threads_status answer
+status_ended (Judged answer) = status_of answer
+status_ended (NoText why) = bytes_status why
 
 -- the status of words that ask for nothing
 abbrev pub status_unasked : Unasked → Status

@@ -1,5 +1,13 @@
 //! Runs scripts on the model of a thread-per-core executor with fair task queues, or on its threads, and judges journals.
+//!
+//! What each part of the program may do stands in its bounds, since a body can do no more than they say:
+//!
+//! - `run`, `audit` and `journal` read: their files are `ReadOnlyFiles`, which opens for reading alone. Only `threads` may start threads and wait.
+//! - What does something hands on how it ended (`Ended`), and has no standard error. What has it (`told`, `not_done`, `failed`) only tells.
+//! - Each command ends with one status, which a failed write to standard error doesn't change.
 #![tactic(auto)]
+
+mod ended;
 
 ghost use Rattle.std.specs.Prelude.{◌≡◌, ◌≢◌, Bool, true, Err, IfErr, IfOk, OnErr, OnOk, map, option_map, string_bytes};
 ghost use Rattle.std.specs.Io.KnownBytes.{Appends};
@@ -8,26 +16,25 @@ ghost use Rattle.clap.specs.Words.{fault_of};
 ghost use Rattle.fair_args.specs.Asks.{asks_of};
 ghost use Rattle.fairexec.specs.Answers.{HasPrinted};
 ghost use Rattle.fairexec.specs.Bytes.{HasNoText, HasText, IsUnopenedBytes, JudgesBytes, PrintsText};
-ghost use Rattle.fairexec.specs.Ends.{EndsBy, EndsFor, status_unasked};
+ghost use Rattle.fairexec.specs.Ends.{EndsBy, EndsFor, status_ended, status_unasked};
 ghost use Rattle.fairexec.specs.Files.{IsUnopened, IsUnopenedScript, Judges, Runs, RunsOnThreads};
 ghost use Rattle.fairexec_args.specs.Asks.{what_named};
 ghost use Rattle.fairexec_args.specs.CommandLine.{our_app};
 ghost use Rattle.fairexec_args.specs.declared.asked.What.TheVariants as whats;
 ghost use Rattle.text_bytes.specs.Tries.{HasFailedSince};
 ghost use Rattle.text_journal.specs.Pages.{AppendsFront};
-ghost use Rattle.text_parts.specs.Faults.{bytes_status};
 ghost use Rattle.text_parts.specs.declared.fault.BytesFault.TheVariants as bytes;
-ghost use Rattle.text_words.specs.Statuses.{fault_status, status_of};
-ghost use Rattle.fairexec_script.specs.Faults.{status_of as threads_code};
+ghost use Rattle.text_words.specs.Statuses.{fault_status};
 ghost use Rattle.fairexec_script.specs.declared.fault.ThreadsFault.TheVariants.{Of};
 ghost use Rattle.text_words.specs.declared.status.Status.TheVariants as status;
 ghost use Rattle.text_words.specs.declared.fault.Fault.TheVariants as faults;
 
+use crate::ended::{Ended, told};
 use fair_args::{Console, ReadOnly, ReadOnlyFiles, Unasked, words_of};
 use fairexec_args::{What, parse};
 use fairexec_report::audit_text;
 use fairexec_run::run_script;
-use fairexec_script::{ThreadsFault, status_of as threads_status};
+use fairexec_script::ThreadsFault;
 use fairexec_threads::threads_script;
 use std::io;
 use std::io::ErrorKind;
@@ -37,7 +44,7 @@ use std::thread::Threads;
 use text_bytes::{ByteSink, DeviceFault, Source, TextSource, flush, write_all};
 use text_journal::JournalCause;
 use text_parts::{BytesFault, text_of_parts};
-use text_words::{Cause, CauseWords, Fault, Status};
+use text_words::{Cause, Fault, Status};
 
 // Only this function has all rights of the system.
 fn main(rt: HostRuntime) -> ExitCode {
@@ -85,37 +92,33 @@ where
         (fault_of our_app (map string_bytes words.now)) (asks_of what_named our_app (map string_bytes words.now)) result }
 {
     match parse(console, rt.alloc(), words) {
-        Ok(asked) => done(console, rt, asked.what, asked.file, input, output),
+        Ok(asked) => told(console, done(rt, asked.what, asked.file, input, output)),
         Err(why) => not_done(console, why),
     }
 }
 
-/// Does what the command line asks for.
-fn done<C: Eprint, R, I: Source, S: ByteSink>(
-    console: &C,
+/// Does what the command line asks for. Nothing here can write to standard error.
+fn done<R, I: Source, S: ByteSink>(
     rt: &R,
     what: What,
     file: Option<&str>,
     input: &mut I,
     output: &mut S,
-) -> Status
+) -> Ended
 where
     R: ReadOnlyFiles + AllocGlobal + Threads + Wait + Copy + Drop + Send + 'static,
     ensures ends { EndsFor (record { source = I.Source; file = R.File.remaining; sink = S.ByteSink })
-        (record { source_old = input.old; source_new = input.new; sink_old = output.old; sink_new = output.new }) (option_map (λ path. path.now) file.entry) what result }
-    ensures never { ((bytes : Bool) → what ≢ whats.Audit bytes) → result ≢ status.FaultFound }
+        (record { source_old = input.old; source_new = input.new; sink_old = output.old; sink_new = output.new }) (option_map (λ path. path.now) file.entry) what (status_ended result) }
+    ensures never { ((bytes : Bool) → what ≢ whats.Audit bytes) → status_ended result ≢ status.FaultFound }
 {
     match what {
-        What::Run { journal, stats } => ended(
-            console,
-            run(rt, journal, stats, file, input, output),
-        ),
+        What::Run { journal, stats } => Ended::Ran(run(rt, journal, stats, file, input, output)),
         What::Threads { journal, stats } => {
-            ran(console, threads(rt, journal, stats, file, input, output))
+            Ended::OnThreads(threads(rt, journal, stats, file, input, output))
         }
-        What::Audit { bytes: false } => ended(console, audit(rt, file, input, output)),
-        What::Audit { bytes: true } => audit_bytes(console, rt, file, input, output),
-        What::Journal => journal(console, rt, file, input, output),
+        What::Audit { bytes: false } => Ended::Judged(audit(rt, file, input, output)),
+        What::Audit { bytes: true } => audit_bytes(rt, file, input, output),
+        What::Journal => journal(rt, file, input, output),
     }
 }
 
@@ -197,40 +200,35 @@ fn audit<R: ReadOnlyFiles + AllocGlobal, I: Source, S: ByteSink>(
 }
 
 /// Judges the journals whose bytes are in the file, or in the input.
-fn audit_bytes<C: Eprint, R: ReadOnlyFiles + AllocGlobal, I: Source, S: ByteSink>(
-    console: &C,
+fn audit_bytes<R: ReadOnlyFiles + AllocGlobal, I: Source, S: ByteSink>(
     rt: &R,
     file: Option<&str>,
     input: &mut I,
     output: &mut S,
-) -> Status
+) -> Ended
     ensures { JudgesBytes (record { source = I.Source; file = R.File.remaining; sink = S.ByteSink })
-        (record { source_old = input.old; source_new = input.new; sink_old = output.old; sink_new = output.new }) (option_map (λ path. path.now) file.entry) result }
+        (record { source_old = input.old; source_new = input.new; sink_old = output.old; sink_new = output.new }) (option_map (λ path. path.now) file.entry) (status_ended result) }
 {
     match text_of(rt, file, input) {
-        Ok(text) => ended(
-            console,
-            audit_text(rt.alloc(), &mut TextSource::of(&text), output),
-        ),
-        Err(fault) => refused(console, fault),
+        Ok(text) => Ended::Judged(audit_text(rt.alloc(), &mut TextSource::of(&text), output)),
+        Err(fault) => Ended::NoText(fault),
     }
 }
 
 /// Prints the text of the journals whose bytes are in the file, or in the input.
-fn journal<C: Eprint, R: ReadOnlyFiles + AllocGlobal, I: Source, S: ByteSink>(
-    console: &C,
+fn journal<R: ReadOnlyFiles + AllocGlobal, I: Source, S: ByteSink>(
     rt: &R,
     file: Option<&str>,
     input: &mut I,
     output: &mut S,
-) -> Status
+) -> Ended
     ensures ends { PrintsText (record { source = I.Source; file = R.File.remaining; sink = S.ByteSink })
-        (record { source_old = input.old; source_new = input.new; sink_old = output.old; sink_new = output.new }) (option_map (λ path. path.now) file.entry) result }
-    ensures never { result ≢ status.FaultFound }
+        (record { source_old = input.old; source_new = input.new; sink_old = output.old; sink_new = output.new }) (option_map (λ path. path.now) file.entry) (status_ended result) }
+    ensures never { status_ended result ≢ status.FaultFound }
 {
     match text_of(rt, file, input) {
-        Ok(text) => ended(console, print(&text, output)),
-        Err(why) => refused(console, why),
+        Ok(text) => Ended::Ran(print(&text, output)),
+        Err(why) => Ended::NoText(why),
     }
 }
 
@@ -285,14 +283,6 @@ fn unopened_bytes(kind: ErrorKind) -> BytesFault
     }
 }
 
-/// Says on standard error why bytes have no text. Where even that can't be said, the status is the same.
-fn refused<C: Eprint>(console: &C, fault: BytesFault) -> Status
-    ensures { result ≡ bytes_status fault }
-{
-    let _ = eprintln!(console; "{fault}");
-    fault.status()
-}
-
 /// Why a file can't be opened.
 fn opening_fault<C>(kind: ErrorKind) -> Fault<C>
     ensures memory { kind ≡ kinds.OutOfMemory → result ≡ faults.Memory }
@@ -314,31 +304,11 @@ fn not_opened(kind: ErrorKind) -> ThreadsFault
     ThreadsFault::Of(opening_fault(kind))
 }
 
-/// Says on standard error why a script wasn't run on threads, if it wasn't. Where even that can't be said, the status is the same.
-fn ran<C: Eprint>(console: &C, answer: Result<bool, ThreadsFault>) -> Status
-    ensures { result ≡ threads_code answer }
-{
-    if let Err(fault) = &answer {
-        let _ = eprintln!(console; "{fault}");
-    }
-    threads_status(&answer)
-}
-
-/// Says on standard error what went wrong, if anything did. Where even that can't be said, the status is the same.
-fn ended<C: Eprint, W: CauseWords + Drop>(console: &C, answer: Result<bool, Fault<W>>) -> Status
-    ensures { result ≡ status_of answer }
-{
-    if let Err(fault) = &answer {
-        let _ = eprintln!(console; "{fault}");
-    }
-    Status::of(&answer)
-}
-
 /// Says on standard error what went wrong before anything was asked for.
 fn failed<C: Eprint>(console: &C, fault: Fault<Cause>) -> Status
     ensures { result ≡ fault_status fault }
 {
-    ended(console, Err(fault))
+    told(console, Ended::Ran(Err(fault)))
 }
 
 /// The words of the command line can't be read as text.

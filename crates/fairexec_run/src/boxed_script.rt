@@ -1,4 +1,9 @@
 //! A script job as a world holds it, in 24 bytes: each link has four places for a job.
+//!
+//! - A job of one poll holds its time and its answer in place, and needs no box.
+//! - Any other job is a `ScriptJob` in a box. The box is made with the job, so no poll takes memory.
+//! - What a job of a script submits is the job `d1=0`, of one poll. So a poll sends without a box, too: `Recorder` keeps the place to which the
+//!   boxed job would send, and the job is sent there behind its poll.
 
 ghost use Rattle.std.specs.Prelude.{◌≡◌, false, IfOk, None};
 ghost use Rattle.base_jobs.specs.ScriptMeaning.{script_meaning};

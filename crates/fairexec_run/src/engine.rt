@@ -1,4 +1,9 @@
 //! Runs a script on the model.
+//!
+//! 1. The whole script is read and judged. A faulty line ends it here, with nothing printed.
+//! 2. The model is opened with its queues. All memory that the run needs is taken here, except a created queue's.
+//! 3. Its events are played in their order. Each prints what it noted, or the journals are printed behind the last one.
+//! 4. The statistics follow if they are wanted, and the sink is told that no more comes.
 
 ghost use Rattle.std.specs.Prelude.{◌≡◌, ◌<◌, ◌≤◌, ◌+◌, ◌*◌, [], ℕ, List, length, IfOk, IfErr, OnOk, OnErr, IfSome, Err, Some, true, false};
 ghost use Rattle.std.specs.Io.KnownBytes.{Keeps, Appends};

@@ -1,13 +1,17 @@
 -- Small cases of bytes that no command line may show.
-use Rattle.std.specs.Prelude.{◌≡◌, ◌∷◌, [], ℕ, List, Some, None}
-use Rattle.std.proofs.Common.{inl, inr}
+use Rattle.std.specs.Prelude.{◌≡◌, ◌∷◌, ◌^◌, [], ℕ, List, Some, None, Ok, Err}
+use Rattle.std.proofs.Common.{inl, inr, lt_irrefl}
 use Rattle.fairview_report.specs.declared.view.View.TheVariants.{Polls}
 use Rattle.text_parts.specs.ByteNotes.{Gives}
 use Rattle.text_parts.specs.Faults.{IfBytes, IfUnwritten, bytes_status}
 use Rattle.text_parts.specs.Houses.{IfFaulty, MakesParts, house_at}
+use Rattle.text_parts.specs.PartLaws.{HasHead}
+use Rattle.text_parts.specs.Parts.{GivesPart}
 use Rattle.text_parts.specs.Wholes.{MakesText}
 use Rattle.text_parts.specs.declared.fault.BytesFault.{BytesFault}
 use Rattle.text_parts.specs.declared.fault.BytesFault.TheVariants as bytes
+use Rattle.text_parts.specs.declared.part.PartCause.TheVariants as cause
+use Rattle.text_parts.specs.declared.part.PartError.TheVariants as errors
 use Rattle.text_parts.specs.declared.parts.HouseNumbers.{HouseNumbers}
 use Rattle.text_parts.specs.declared.parts.PartsCause.TheVariants.{House}
 use Rattle.text_parts.specs.declared.parts.PartsError.TheVariants.{Faulty}
@@ -62,3 +66,26 @@ read_and_lost gives = cc gives
 
 pub made_of_nothing : (bytes : List ℕ) → MakesParts {W = ℕ} (λ whole handed. ⊥) 7 bytes → ⊥
 made_of_nothing bytes makes = makes.4
+
+-- a number has no room in a head
+pub before_without_room : HasHead (record { actor = 0; before = 2 ^ 64; count = 0; size = 0 }) → ⊥
+before_without_room has = lt_irrefl _ has.before
+
+pub count_without_room : HasHead (record { actor = 0; before = 0; count = 2 ^ 64; size = 0 }) → ⊥
+count_without_room has = lt_irrefl _ has.count
+
+pub size_without_room : HasHead (record { actor = 0; before = 0; count = 0; size = 2 ^ 64 }) → ⊥
+size_without_room has = lt_irrefl _ has.size
+
+-- another part is returned than was read, one of faulty bytes, a fault of good ones, and another fault
+pub other_part : GivesPart {X = ℕ} {Y = ℕ} (λ found. found) (Ok 7) (Ok 8) → ⊥
+other_part gives = cc gives
+
+pub part_of_faulty_bytes : GivesPart {X = ℕ} {Y = ℕ} (λ found. found) (Ok 7) (Err cause.Cut) → ⊥
+part_of_faulty_bytes gives = cc gives
+
+pub fault_of_good_bytes : GivesPart {X = ℕ} {Y = ℕ} (λ found. found) (Err (errors.Faulty cause.Cut)) (Ok 7) → ⊥
+fault_of_good_bytes gives = cc gives
+
+pub other_fault : GivesPart {X = ℕ} {Y = ℕ} (λ found. found) (Err (errors.Faulty cause.Cut)) (Err cause.Sum) → ⊥
+other_fault gives = cc gives

@@ -2,6 +2,7 @@
 //! as a picture and as a trace.
 #![tactic(auto)]
 
+mod ended;
 mod refusal;
 mod words;
 
@@ -11,21 +12,18 @@ ghost use Rattle.clap.specs.Words.{fault_of};
 ghost use Rattle.fair_args.specs.Asks.{asks_of};
 ghost use Rattle.fairview.specs.Answers.{IsUnopened, ShowsOf};
 ghost use Rattle.fairview.specs.Bytes.{EndsShown, HasNoText, HasText, IsUnopenedBytes, ShowsBytes};
-ghost use Rattle.fairview.specs.Ends.{EndsBy, EndsFor, status_unasked};
+ghost use Rattle.fairview.specs.Ends.{EndsBy, EndsFor, status_ended, status_unasked};
 ghost use Rattle.fairview.specs.Shows.{view_asked};
 ghost use Rattle.fairview_args.specs.Asks.{request_named, what_told};
 ghost use Rattle.fairview_args.specs.CommandLine.{our_app};
-ghost use Rattle.fairview_report.specs.Faults.{status_of};
 ghost use Rattle.fairview_report.specs.declared.fault.ViewFault.TheVariants as faults;
-ghost use Rattle.text_parts.specs.Faults.{bytes_status};
 ghost use Rattle.text_parts.specs.declared.fault.BytesFault.TheVariants as bytes;
 ghost use Rattle.text_words.specs.declared.status.Status.TheVariants as status;
 
-use crate::refusal::Refusal;
+use crate::ended::{Ended, told};
 use crate::words::view_of;
 use fair_args::{Console, ReadOnly, ReadOnlyFiles, Unasked, words_of};
 use fairview_args::{Request, parse};
-use fairview_report::fault::status_of;
 use fairview_report::{View, ViewFault, view_text};
 use std::io;
 use std::io::ErrorKind;
@@ -78,30 +76,29 @@ fn by_words<C: Print + Eprint, R: ReadOnlyFiles + AllocGlobal, I: Source, S: Byt
     ensures never { result ≢ status.FaultFound }
 {
     match parse(console, rt.alloc(), words) {
-        Ok(asked) => done(console, rt, asked.what, asked.file, input, output),
+        Ok(asked) => told(console, done(rt, asked.what, asked.file, input, output)),
         Err(why) => not_done(console, why),
     }
 }
 
-/// Does what the command line asks for.
-fn done<C: Eprint, R: ReadOnlyFiles + AllocGlobal, I: Source, S: ByteSink>(
-    console: &C,
+/// Does what the command line asks for. Nothing here can write to standard error.
+fn done<R: ReadOnlyFiles + AllocGlobal, I: Source, S: ByteSink>(
     rt: &R,
     request: Request<'_>,
     file: Option<&str>,
     input: &mut I,
     output: &mut S,
-) -> Status
+) -> Ended
     ensures ends { EndsFor
         (EndsShown (record { source = I.Source; file = R.File.remaining; sink = S.ByteSink }) (record { source_old = input.old; source_new = input.new; sink_old = output.old; sink_new = output.new })
         request.entry.bytes (option_map (λ path. path.now) file.entry))
-        ((input.new ≡ input.old) × (output.new ≡ output.old)) (view_asked (what_told request.entry.what)) result }
-    ensures never { result ≢ status.FaultFound }
+        ((input.new ≡ input.old) × (output.new ≡ output.old)) (view_asked (what_told request.entry.what)) (status_ended result) }
+    ensures never { status_ended result ≢ status.FaultFound }
 {
     match view_of(request.what) {
-        Ok(view) if request.bytes => show_bytes(console, rt, view, file, input, output),
-        Ok(view) => ended(console, show(rt, view, file, input, output)),
-        Err(refusal) => word_refused(console, refusal),
+        Ok(view) if request.bytes => show_bytes(rt, view, file, input, output),
+        Ok(view) => Ended::Shown(show(rt, view, file, input, output)),
+        Err(refusal) => Ended::Word(refusal),
     }
 }
 
@@ -112,8 +109,8 @@ fn not_done<C: Eprint>(console: &C, why: Unasked) -> Status
     match why {
         Unasked::Told => Status::Done,
         Unasked::Mistake => Status::Refused,
-        Unasked::Write => ended(console, Err(ViewFault::Write)),
-        Unasked::Memory => ended(console, Err(ViewFault::Memory)),
+        Unasked::Write => told(console, Ended::Shown(Err(ViewFault::Write))),
+        Unasked::Memory => told(console, Ended::Shown(Err(ViewFault::Memory))),
     }
 }
 
@@ -138,24 +135,20 @@ fn show<R: ReadOnlyFiles + AllocGlobal, I: Source, S: ByteSink>(
 }
 
 /// Shows what is asked for of the journals whose bytes are in the file, or in the input.
-fn show_bytes<C: Eprint, R: ReadOnlyFiles + AllocGlobal, I: Source, S: ByteSink>(
-    console: &C,
+fn show_bytes<R: ReadOnlyFiles + AllocGlobal, I: Source, S: ByteSink>(
     rt: &R,
     view: View,
     file: Option<&str>,
     input: &mut I,
     output: &mut S,
-) -> Status
+) -> Ended
     ensures shows { ShowsBytes (record { source = I.Source; file = R.File.remaining; sink = S.ByteSink })
-        (record { source_old = input.old; source_new = input.new; sink_old = output.old; sink_new = output.new }) (option_map (λ path. path.now) file.entry) view result }
-    ensures never { result ≢ status.FaultFound }
+        (record { source_old = input.old; source_new = input.new; sink_old = output.old; sink_new = output.new }) (option_map (λ path. path.now) file.entry) view (status_ended result) }
+    ensures never { status_ended result ≢ status.FaultFound }
 {
     match text_of(rt, file, input) {
-        Ok(text) => ended(
-            console,
-            view_text(rt.alloc(), view, &mut TextSource::of(&text), output),
-        ),
-        Err(fault) => bytes_refused(console, fault),
+        Ok(text) => Ended::Shown(view_text(rt.alloc(), view, &mut TextSource::of(&text), output)),
+        Err(fault) => Ended::Bytes(fault),
     }
 }
 
@@ -189,14 +182,6 @@ fn unopened_bytes(kind: ErrorKind) -> BytesFault
     }
 }
 
-/// Says on standard error why bytes have no text. Where even that can't be said, the status is the same.
-fn bytes_refused<C: Eprint>(console: &C, fault: BytesFault) -> Status
-    ensures { result ≡ bytes_status fault }
-{
-    let _ = eprintln!(console; "{fault}");
-    fault.status()
-}
-
 /// Why a journal text can't be opened.
 fn unopened(kind: ErrorKind) -> ViewFault
     ensures memory { kind ≡ kinds.OutOfMemory → result ≡ faults.Memory }
@@ -209,24 +194,6 @@ fn unopened(kind: ErrorKind) -> ViewFault
     }
 }
 
-/// Says on standard error what went wrong, if anything did. Where even that can't be said, the status is the same.
-fn ended<C: Eprint>(console: &C, answer: Result<(), ViewFault>) -> Status
-    ensures { result ≡ status_of answer }
-{
-    if let Err(fault) = &answer {
-        let _ = eprintln!(console; "{fault}");
-    }
-    status_of(&answer)
-}
-
-/// A word of the command line is refused. What is wrong is told on standard error.
-fn word_refused<C: Eprint>(console: &C, refusal: Refusal) -> Status
-    ensures { result ≡ status.Refused }
-{
-    let _ = eprintln!(console; "error: {refusal}");
-    Status::Refused
-}
-
 /// The words of the command line can't be read as text.
 fn words_refused<C: Eprint>(console: &C, kind: ErrorKind) -> Status
     ensures memory { kind ≡ kinds.OutOfMemory → result ≡ status.Memory }
@@ -234,7 +201,7 @@ fn words_refused<C: Eprint>(console: &C, kind: ErrorKind) -> Status
     ensures never { result ≢ status.FaultFound }
 {
     if kind == ErrorKind::OutOfMemory {
-        return ended(console, Err(ViewFault::Memory));
+        return told(console, Ended::Shown(Err(ViewFault::Memory)));
     }
     let _ = eprintln!(console; "error: the command line is not UTF-8");
     Status::Refused

@@ -12,7 +12,7 @@ returns-in-Ok g c =
       c.in-Ok.ensures.text,
       (
         audited.result,
-        c.ended.ensures,
+        refl,
         subst (λ all. HasJudgedText g.S.ByteSink (Some all) c.args.output.now audited.new.sink audited.result) (c.of.ensures ∙ c.deref.ensures.value)
             (record {
               done = audited.ensures.done;
@@ -27,4 +27,4 @@ returns-in-Ok g c =
     )
 
 pub returns-in-Err : goal.returns-in-Err
-returns-in-Err g c = inr (c.in-Err.fault, c.in-Err.ensures.none, c.refused.ensures, refl)
+returns-in-Err g c = inr (c.in-Err.fault, c.in-Err.ensures.none, refl, refl)

@@ -7,7 +7,7 @@ use Rattle.fairview.proofs.EndLemmas.{ends_unasked, none_found}
 use Rattle.fairview.proofs.by_words.Goals as goal
 
 pub returns-in-Ok-clause-ends : goal.returns-in-Ok-clause-ends
-returns-in-Ok-clause-ends g c = rw (c.in-Ok.ensures.faultless, c.in-Ok.ensures.asked) (inl c.done.ensures.ends)
+returns-in-Ok-clause-ends g c = rw (c.told.ensures, c.in-Ok.ensures.faultless, c.in-Ok.ensures.asked) (inl c.done.ensures.ends)
 
 pub returns-in-Err-clause-ends : goal.returns-in-Err-clause-ends
 returns-in-Err-clause-ends g c =

@@ -11,7 +11,7 @@ returns-in-Ok-clause-shows g c =
       c.in-Ok.text.items,
       c.in-Ok.ensures.text,
       shown.result,
-      c.ended.ensures,
+      refl,
       subst (λ all. HasShown g.S.ByteSink c.args.view (Some all) c.args.output.now shown.new.sink shown.result) (c.of.ensures ∙ c.deref.ensures.value)
           (record {
             done = shown.ensures.done;
@@ -25,10 +25,10 @@ returns-in-Ok-clause-shows g c =
     )
 
 pub returns-in-Ok-clause-never : goal.returns-in-Ok-clause-never
-returns-in-Ok-clause-never g c = rw c.ended.ensures (no_fault_found c.view_text.result)
+returns-in-Ok-clause-never g c = no_fault_found c.view_text.result
 
 pub returns-in-Err-clause-shows : goal.returns-in-Err-clause-shows
-returns-in-Err-clause-shows g c = inr (c.in-Err.fault, c.in-Err.ensures.none, c.bytes_refused.ensures, refl)
+returns-in-Err-clause-shows g c = inr (c.in-Err.fault, c.in-Err.ensures.none, refl, refl)
 
 pub returns-in-Err-clause-never : goal.returns-in-Err-clause-never
-returns-in-Err-clause-never g c = rw c.bytes_refused.ensures (no_bytes_found c.in-Err.fault)
+returns-in-Err-clause-never g c = no_bytes_found c.in-Err.fault

@@ -1,0 +1,65 @@
+//! How what was asked for ended, and how that is told.
+
+ghost use Rattle.std.specs.Prelude.{◌≡◌};
+ghost use Rattle.fairexec.specs.Ends.{status_ended};
+ghost use Rattle.fairexec_script.specs.Faults.{status_of as threads_code};
+ghost use Rattle.text_parts.specs.Faults.{bytes_status};
+ghost use Rattle.text_words.specs.Statuses.{status_of};
+
+use fairexec_script::{ThreadsFault, status_of as threads_status};
+use text_journal::JournalCause;
+use text_parts::BytesFault;
+use text_words::{Cause, CauseWords, Fault, Status};
+
+/// What it came to.
+#[derive(Drop)]
+pub(crate) enum Ended {
+    /// A script was run, or a text was printed; or not, for this reason.
+    Ran(Result<bool, Fault<Cause>>),
+    /// A script was run on threads, or not.
+    OnThreads(Result<bool, ThreadsFault>),
+    /// A text was judged, or not.
+    Judged(Result<bool, Fault<JournalCause>>),
+    /// Bytes have no text, for this reason.
+    NoText(BytesFault),
+}
+
+/// Says on standard error what went wrong, if anything did. Where even that can't be said, the status is the same.
+pub(crate) fn told<C: Eprint>(console: &C, ended: Ended) -> Status
+    ensures { result ≡ status_ended ended }
+{
+    match ended {
+        Ended::Ran(answer) => answered(console, answer),
+        Ended::OnThreads(answer) => ran(console, answer),
+        Ended::Judged(answer) => answered(console, answer),
+        Ended::NoText(fault) => refused(console, fault),
+    }
+}
+
+/// What is told of a text.
+fn answered<C: Eprint, W: CauseWords + Drop>(console: &C, answer: Result<bool, Fault<W>>) -> Status
+    ensures { result ≡ status_of answer }
+{
+    if let Err(fault) = &answer {
+        let _ = eprintln!(console; "{fault}");
+    }
+    Status::of(&answer)
+}
+
+/// What is told of a script for threads.
+fn ran<C: Eprint>(console: &C, answer: Result<bool, ThreadsFault>) -> Status
+    ensures { result ≡ threads_code answer }
+{
+    if let Err(fault) = &answer {
+        let _ = eprintln!(console; "{fault}");
+    }
+    threads_status(&answer)
+}
+
+/// What is told of bytes without a text.
+fn refused<C: Eprint>(console: &C, fault: BytesFault) -> Status
+    ensures { result ≡ bytes_status fault }
+{
+    let _ = eprintln!(console; "{fault}");
+    fault.status()
+}
