@@ -78,6 +78,7 @@ impl<J: Task, A: Allocator + Clone> Core<J, A> {
 
     /// The job that was out leaves for good, and its queue has this tally from then on. No turn is open then, and the queue may be picked
     /// again if a job waits in it.
+    #[inline(always)]
     pub(super) fn let_go(&mut self, queue: QueueNo, tally: Tally)
         requires out { IsOutOf self.old queue }
         requires fits { FitsTurns self.old.turns 0 tally }
