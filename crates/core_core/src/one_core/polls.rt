@@ -45,7 +45,12 @@ impl<J: Task, A: Allocator + Clone> Core<J, A> {
         self.turns += 1;
         self.bursts.begin(queue);
         let as_it_was = Snapshot::of(&job);
-        let named = name;
+        // Field by field: bytes that lie between them would go through memory, and wait there.
+        let named = JobId {
+            from: name.from,
+            to: name.to,
+            number: name.number,
+        };
         self.out = Some(Out {
             name,
             queue,
