@@ -20,6 +20,19 @@ pub struct Tally {
     pub returned: u64,
 }
 
+/// What a time costs under these shares. At the default the time is its own cost, and a division would take as long as many other steps.
+#[inline(always)]
+fn cost(time: u64, shares: &Shares) -> u64
+    ensures value { result ≡ spec.charge time shares.now }
+    ensures bounded { result < 2 ^ 50 }
+{
+    if shares.get() == 1000 {
+        clamped(time)
+    } else {
+        charge(time, shares)
+    }
+}
+
 impl Tally {
     /// That of a new queue.
     pub const NONE: Tally = Tally {
@@ -42,7 +55,7 @@ impl Tally {
         ensures clamped { result.time < self.time + 2 ^ 40 }
     {
         Tally {
-            runtime: self.runtime + u128::from(charge(time, shares)),
+            runtime: self.runtime + u128::from(cost(time, shares)),
             selected: self.selected,
             time: self.time + u128::from(clamped(time)),
             finished: self.finished,

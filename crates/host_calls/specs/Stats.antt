@@ -2,6 +2,7 @@
 use Rattle.std.specs.Prelude.{◌≡◌, ℕ, ◌+◌, ◌*◌, ◌^◌, ◌<◌, ◌≤◌, false, Option, Some, None, is_some, length}
 use Rattle.base_words.specs.declared.stats.QueueStats.{QueueStats}
 use Rattle.base_words.specs.Commands.{created_count}
+use Rattle.base_words.specs.Journal.{Journal}
 use Rattle.base_words.specs.Work.{number_if}
 use Rattle.actor_core.specs.Stats.{TellsQueue}
 use Rattle.base_words.specs.Stats.{core_stats}
@@ -37,11 +38,14 @@ SeatTells view before code.Ok after = (before.size ≡ 56) × AreSeatFigures vie
 SeatTells view before code.BadNumber after = (before.size ≡ 56 → ⊥) × (after ≡ before)
 SeatTells view before other after = ⊥
 
--- the counts of a queue, if there is one of this number
+-- the counts of a queue by these notes, if there is one of this number
+abbrev pub IsToldOf : ℕ → Journal ℕ → ℕ → Option QueueStats → Type 0
+IsToldOf burst notes queue (Some stats) = (queue ≤ created_count notes) × TellsQueue burst queue notes stats
+IsToldOf burst notes queue None = created_count notes < queue
+
+-- those of a queue of this core
 abbrev pub IsSeatStatsOf : HostedView → ℕ → Option QueueStats → Type 0
-IsSeatStatsOf view queue (Some stats) =
-    IfCounted view ((queue ≤ created_count view.recorded.journal.notes) × TellsQueue view.recorded.core.bursts.burst queue view.recorded.journal.notes stats)
-IsSeatStatsOf view queue None = IfCounted view (created_count view.recorded.journal.notes < queue)
+IsSeatStatsOf view queue told = IfCounted view (IsToldOf view.recorded.core.bursts.burst view.recorded.journal.notes queue told)
 
 -- they are told; a struct of another size stays as it was
 abbrev pub SeatTellsQueue : HostedView → ℕ → QueueFigures → Code → QueueFigures → Type 0

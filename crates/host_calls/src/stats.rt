@@ -1,16 +1,24 @@
 //! What a core of a house tells of itself in numbers, while it runs.
 
-ghost use Rattle.std.specs.Prelude.{◌≡◌};
+ghost use Rattle.std.specs.Prelude.{◌≡◌, ◌+◌, ℕ};
+ghost use Rattle.arrayvec.specs.ArrayVec.{array_vec_len};
+ghost use Rattle.base_words.specs.Commands.{created_count};
+ghost use Rattle.base_words.specs.Journal.{Journal};
+ghost use Rattle.actor_core.specs.Stats.{TellsCore, TellsQueues};
 ghost use Rattle.host_calls.specs.Members.{OnCore};
-ghost use Rattle.host_calls.specs.Stats.{IsSeatStatsOf, SeatTells, SeatTellsQueue, running_number};
+ghost use Rattle.host_calls.specs.Stats.{IfCounted, IsSeatStatsOf, IsToldOf, SeatTells, SeatTellsQueue, running_number};
 
 use crate::code::Code;
 use crate::figures::{
     CORE_SIZE, CoreFigures, QUEUE_SIZE, QueueFigures, low_and_high, number_of_mode, queue_figures,
 };
 use crate::member::Member;
-use base_words::QueueStats;
+use arrayvec::ArrayVec;
+use base_words::{CoreStats, QueueStats};
 use host_core::Hosted;
+
+/// The numbers of so many queues, or of fewer, are handed on in a small place. One for 256 has 20 kB, which are written and copied each time.
+const FEW: u16 = 16;
 
 impl Member {
     /// Tells the counts of the core.
@@ -41,11 +49,11 @@ fn tell_core(core: &Hosted, figures: &mut CoreFigures) -> Code
     if figures.size != CORE_SIZE {
         return Code::BadNumber;
     }
-    let (told, queues) = core.stats();
+    let (told, queues) = core_stats(core);
     let (floor_low, floor_high) = low_and_high(told.floor);
     *figures = CoreFigures {
         size: CORE_SIZE,
-        queues: queues.len() as u32,
+        queues,
         room: core.room(),
         held: told.held,
         turns: told.turns,
@@ -78,11 +86,35 @@ fn tell_queue(core: &Hosted, queue: u32, figures: &mut QueueFigures) -> Code
     Code::Ok
 }
 
+/// The numbers of a core, and how many queues it has.
+fn core_stats(core: &Hosted) -> (CoreStats, u32)
+    ensures core { TellsCore core.now.recorded.core.cores core.now.recorded.journal.notes result.0 }
+    ensures queues { IfCounted core.now (result.1 ≡ created_count core.now.recorded.journal.notes + 1) }
+{
+    if core.queue_count() <= FEW {
+        let (told, queues): (CoreStats, ArrayVec<QueueStats, 16>) = core.stats();
+        return (told, queues.len() as u32);
+    }
+    let (told, queues): (CoreStats, ArrayVec<QueueStats, 256>) = core.stats();
+    (told, queues.len() as u32)
+}
+
 /// The counts of a queue, if there is one of this number.
 fn stats_of(core: &Hosted, queue: u32) -> Option<QueueStats>
     ensures { IsSeatStatsOf core.now queue result }
 {
-    let (_core, queues) = core.stats();
+    if core.queue_count() <= FEW {
+        let (_core, queues): (CoreStats, ArrayVec<QueueStats, 16>) = core.stats();
+        return stats_at(&queues, queue);
+    }
+    let (_core, queues): (CoreStats, ArrayVec<QueueStats, 256>) = core.stats();
+    stats_at(&queues, queue)
+}
+
+/// The counts at this place, if there are some.
+fn stats_at<const N: usize>(queues: &ArrayVec<QueueStats, N>, queue: u32) -> Option<QueueStats>
+    ensures { (burst : ℕ) (notes : Journal ℕ) → TellsQueues burst notes (array_vec_len queues.now) queues.now.items → IsToldOf burst notes queue result }
+{
     let place = queue as usize;
     if place < queues.len() {
         Some(queues[place])

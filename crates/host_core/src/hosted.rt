@@ -1,6 +1,6 @@
 //! A core whose jobs the host runs, over its actor's ends of the links.
 
-ghost use Rattle.std.specs.Prelude.{◌≡◌, ◌≢◌, ◌+◌, ◌*◌, ◌^◌, ◌<◌, ◌↔◌, [], IfErr, IfOk, IsSome, IsTrue, length};
+ghost use Rattle.std.specs.Prelude.{◌≡◌, ◌≢◌, ◌+◌, ◌*◌, ◌^◌, ◌<◌, ◌≤◌, ◌↔◌, [], IfErr, IfOk, IsSome, IsTrue, length};
 ghost use Rattle.arrayvec.specs.ArrayVec.{array_vec_len};
 ghost use Rattle.base_words.specs.Closing.{IsDrained};
 ghost use Rattle.actor_core.specs.Stats.{TellsCore, TellsQueues};
@@ -18,7 +18,7 @@ use crate::passing::{forget, hand_on};
 use crate::told::{host_order, told_detached, told_redeemed, told_sent};
 use crate::turns::{Run, go_on};
 use crate::word::poll_told;
-use actor_core::{Recorded, RunningJournal, told_stats};
+use actor_core::{Recorded, RunningJournal, told_stats_within};
 use actor_seat::Seat;
 use arrayvec::ArrayVec;
 use base_jobs::Step;
@@ -295,12 +295,21 @@ impl Hosted {
         self.is_at_rest() && self.seat.recorded().is_drained()
     }
 
-    /// The numbers of the core and of its queues, by number. Times are in nanoseconds.
-    pub fn stats(&self) -> (CoreStats, ArrayVec<QueueStats, 256>)
+    /// How many queues there are.
+    pub fn queue_count(&self) -> u16
+        ensures value { result ≡ queue_count self.now.recorded.core.queues }
+        ensures few { result ≤ 256 }
+    {
+        self.seat.recorded().core().queue_count()
+    }
+
+    /// The numbers of the core and of its queues, by number, with places for so many queues. Times are in nanoseconds.
+    pub fn stats<const N: usize>(&self) -> (CoreStats, ArrayVec<QueueStats, N>)
+        requires few { queue_count self.now.recorded.core.queues ≤ N }
         ensures core { TellsCore self.now.recorded.core.cores self.now.recorded.journal.notes result.0 }
         ensures queues { length self.now.recorded.journal.notes < 2 ^ 64 → TellsQueues self.now.recorded.core.bursts.burst self.now.recorded.journal.notes (array_vec_len result.1) result.1.items }
     {
-        told_stats(self.seat.recorded())
+        told_stats_within(self.seat.recorded())
     }
 
     /// Whether the host runs a job of this core.

@@ -45,7 +45,12 @@ impl<J: Task, A: Allocator + Clone> Core<J, A> {
         self.turns += 1;
         self.bursts.begin(queue);
         let as_it_was = Snapshot::of(&job);
-        let named = name;
+        // Field by field: bytes that lie between them would go through memory, and wait there.
+        let named = JobId {
+            from: name.from,
+            to: name.to,
+            number: name.number,
+        };
         self.out = Some(Out {
             name,
             queue,
@@ -78,6 +83,7 @@ impl<J: Task, A: Allocator + Clone> Core<J, A> {
 
     /// The job that was out leaves for good, and its queue has this tally from then on. No turn is open then, and the queue may be picked
     /// again if a job waits in it.
+    #[inline(always)]
     pub(super) fn let_go(&mut self, queue: QueueNo, tally: Tally)
         requires out { IsOutOf self.old queue }
         requires fits { FitsTurns self.old.turns 0 tally }
