@@ -1,6 +1,6 @@
 -- What is known of each two queues of a core after one more note.
-use Rattle.std.proofs.Common.{◌≡◌, ℕ, zero, suc, ◌+◌, ◌≤◌, ◌<◌, max, Bool, true, false, List, [], ◌∷◌, ◌++◌, length, map, get_or, refl, sym, ap, ◌∙◌, cond, append-nil, arith}
-use Rattle.std.specs.Prelude.{◌==◌, ◌&&◌, Option, Some, None, flat_map, nat_lt}
+use Rattle.std.proofs.Common.{◌≡◌, ℕ, zero, suc, ◌+◌, ◌≤◌, ◌<◌, Bool, true, false, List, [], ◌∷◌, ◌++◌, length, map, get_or, refl, sym, ap, ◌∙◌, cond, append-nil, arith}
+use Rattle.std.specs.Prelude.{◌==◌, ◌&&◌, Some, None, flat_map}
 use Rattle.std.proofs.lemmas.Bool.{le-ltb, ne_eqb}
 use Rattle.std.proofs.lemmas.Grind.{flat_map-append}
 use Rattle.std.proofs.lemmas.List.{ext_get_or, get_or-map, length-map, map-append}
@@ -21,7 +21,6 @@ use Rattle.fairview_lag.specs.PairWalks.{idle, idle_with, lags_of, names_below, 
 use Rattle.fairview_lag.specs.Stretches.{begun, begun_of}
 use Rattle.fairview_lag.specs.declared.pair_walk.PairWalk.{PairWalk}
 use Rattle.fairview_lag.specs.declared.pairs.PairLag.{PairLag}
-use Rattle.fairview_lag.specs.declared.stretch.Lag.{Lag}
 
 number_if-false : (test : Bool) → test ≡ false → number_if test ≡ 0
 number_if-false true is = cc

@@ -48,3 +48,9 @@ pub record KnowsLags {T : Type 0} (burst : ℕ) (lags : CoreLags) (journal : Jou
   pub standing : KnowsStanding burst lags.standing journal
   pub count : lags.count ≡ queue_count journal
   pub pairs : lags.pairs.items ≡ pairs_known burst (queue_count journal) journal
+
+-- the same is known of the queues, and of each two of them
+pub record IsSame (old new : CoreLags) : Type 0 where
+  pub standing : new.standing ≡ old.standing
+  pub count : new.count ≡ old.count
+  pub pairs : new.pairs.items ≡ old.pairs.items

@@ -1,6 +1,7 @@
 //! The greatest lags of all pairs of queues, by a walk over the journal of each core.
 
-ghost use Rattle.std.specs.Prelude.{◌≡◌, ◌≤◌, ◌<◌, ◌∷◌, ◌++◌, [], ℕ, length, max, flat_map, OnOk, IfOk};
+ghost use Rattle.std.specs.Prelude.{◌≡◌, ◌≤◌, ◌<◌, ◌∷◌, ◌++◌, [], ℕ, length, max, flat_map, OnErr, OnOk, IfOk};
+ghost use Rattle.base_words.specs.Assembly.{IsPrefix};
 ghost use Rattle.base_words.specs.Journal.{Journal as Notes};
 ghost use Rattle.note_facts.specs.Accounts.{greatest_count};
 ghost use Rattle.fairview_marks.specs.Leads.{KnowsStanding};
@@ -27,7 +28,8 @@ pub struct CoreLags {
 
 /// Puts the pairs of a queue with each queue of a lower number, none of which had work beside it.
 fn push_idle_with(second: QueueNo, pairs: &mut Vec<PairWalk>) -> Result<(), AllocError>
-    ensures { OnOk result (pairs.new.items ≡ pairs.old.items ++ spec.idle_with second) }
+    ensures all { OnOk result (pairs.new.items ≡ pairs.old.items ++ spec.idle_with second) }
+    ensures front { IsPrefix pairs.old.items pairs.new.items }
 {
     for first in 0..second.0 {
         pairs.push(PairWalk::new(QueueNo(first), second))?;
@@ -38,8 +40,9 @@ fn push_idle_with(second: QueueNo, pairs: &mut Vec<PairWalk>) -> Result<(), Allo
 /// Puts the pairs of the queues from one number up to another, which no job entered so far.
 fn push_idle(from: u32, to: u32, pairs: &mut Vec<PairWalk>) -> Result<(), AllocError>
     requires { to ≤ 256 }
-    ensures { OnOk result ((burst : ℕ) (before : Notes ℕ) → from ≡ queue_count before
+    ensures all { OnOk result ((burst : ℕ) (before : Notes ℕ) → from ≡ queue_count before
         → pairs.old.items ≡ spec.pairs_known burst from before → pairs.new.items ≡ spec.pairs_known burst (max from to) before) }
+    ensures front { IsPrefix pairs.old.items pairs.new.items }
 {
     for second in from..to {
         push_idle_with(QueueNo(second as u8), pairs)?;
@@ -59,7 +62,8 @@ fn add_to_all(standing: &Standing, note: &Note<u64>, pairs: &mut Vec<PairWalk>)
 
 /// Puts a pair behind the others, if there is one.
 fn push_told(told: Option<PairLag>, pairs: &mut Vec<PairLag>) -> Result<(), AllocError>
-    ensures { OnOk result (pairs.new.items ≡ pairs.old.items ++ one_of told) }
+    ensures all { OnOk result (pairs.new.items ≡ pairs.old.items ++ one_of told) }
+    ensures refused { OnErr result (pairs.new.items ≡ pairs.old.items) }
 {
     if let Some(pair) = told {
         pairs.push(pair)?;
@@ -69,7 +73,8 @@ fn push_told(told: Option<PairLag>, pairs: &mut Vec<PairLag>) -> Result<(), Allo
 
 /// Puts the pairs that have a lag.
 fn push_all(core: CoreNo, known: &[PairWalk], pairs: &mut Vec<PairLag>) -> Result<(), AllocError>
-    ensures { OnOk result (pairs.new.items ≡ pairs.old.items ++ flat_map (spec.lags_of core) known.now) }
+    ensures all { OnOk result (pairs.new.items ≡ pairs.old.items ++ flat_map (spec.lags_of core) known.now) }
+    ensures front { IsPrefix pairs.old.items pairs.new.items }
 {
     for pair in known {
         push_told(pair.told(core), pairs)?;
@@ -93,16 +98,39 @@ impl CoreLags {
     ///
     /// # Errors
     ///
-    /// `AllocError` for want of memory; then nothing is known any more.
+    /// `AllocError` for want of memory; then the note isn't read.
     pub fn add(&mut self, note: &Note<u64>) -> Result<(), AllocError>
-        ensures { OnOk result ((burst : ℕ) (before : Notes ℕ) → length before < greatest_count → spec.KnowsLags burst self.old before → spec.KnowsLags burst self.new (note.now ∷ before)) }
+        ensures knows { OnOk result ((burst : ℕ) (before : Notes ℕ) → length before < greatest_count → spec.KnowsLags burst self.old before → spec.KnowsLags burst self.new (note.now ∷ before)) }
+        ensures refused { OnErr result (spec.IsSame self.old self.new) }
     {
         let told = queues_told(note);
+        let known = self.pairs.len();
+        match self.add_to_queues(told, note) {
+            Ok(()) => {
+                self.count = self.count.max(told);
+                add_to_all(&self.standing, note, &mut self.pairs);
+                Ok(())
+            }
+            Err(refused) => {
+                self.pairs.truncate(known);
+                Err(refused)
+            }
+        }
+    }
+
+    /// Puts the pairs of the queues up to this one, and then the queues read the note. After an `Err` no queue reads it, and new pairs may stand behind the others.
+    fn add_to_queues(&mut self, told: u32, note: &Note<u64>) -> Result<(), AllocError>
+        requires { told ≤ 256 }
+        ensures knows { OnOk result ((burst : ℕ) (before : Notes ℕ) → length before < greatest_count → KnowsStanding burst self.old.standing before
+            → KnowsStanding burst self.new.standing (note.now ∷ before)) }
+        ensures all { OnOk result ((burst : ℕ) (before : Notes ℕ) → self.old.count ≡ queue_count before
+            → self.old.pairs.items ≡ spec.pairs_known burst self.old.count before → self.new.pairs.items ≡ spec.pairs_known burst (max self.old.count told) before) }
+        ensures count { self.new.count ≡ self.old.count }
+        ensures front { IsPrefix self.old.pairs.items self.new.pairs.items }
+        ensures refused { OnErr result (self.new.standing ≡ self.old.standing) }
+    {
         push_idle(self.count, told, &mut self.pairs)?;
-        self.count = self.count.max(told);
-        self.standing.add(note)?;
-        add_to_all(&self.standing, note, &mut self.pairs);
-        Ok(())
+        self.standing.add(note)
     }
 
     /// Reads the journal of a core whose turns may have so many polls.
@@ -125,9 +153,10 @@ impl CoreLags {
     ///
     /// # Errors
     ///
-    /// `AllocError` for want of memory. A first part of them may then stand there.
+    /// `AllocError` for want of memory. Some of them may then stand there, behind what was there.
     pub fn push_pairs(&self, core: CoreNo, pairs: &mut Vec<PairLag>) -> Result<(), AllocError>
-        ensures { OnOk result ((burst : ℕ) (journal : Notes ℕ) → spec.KnowsLags burst self.now journal → pairs.new.items ≡ pairs.old.items ++ core_pairs burst core journal) }
+        ensures all { OnOk result ((burst : ℕ) (journal : Notes ℕ) → spec.KnowsLags burst self.now journal → pairs.new.items ≡ pairs.old.items ++ core_pairs burst core journal) }
+        ensures front { IsPrefix pairs.old.items pairs.new.items }
     {
         push_all(core, &self.pairs, pairs)
     }

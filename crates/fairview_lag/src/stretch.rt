@@ -1,6 +1,6 @@
 //! What a walk knows of two queues.
 
-ghost use Rattle.std.specs.Prelude.{◌≡◌, ◌<◌, ◌∷◌, ℕ, [], length, OnOk};
+ghost use Rattle.std.specs.Prelude.{◌≡◌, ◌<◌, ◌∷◌, ℕ, [], length, OnErr, OnOk};
 ghost use Rattle.base_words.specs.Journal.{Journal as Notes};
 ghost use Rattle.note_facts.specs.Accounts.{greatest_count};
 ghost use Rattle.base_words.specs.declared.note.Note.{Note as NoteSeen};
@@ -185,14 +185,15 @@ impl Stretch {
     ///
     /// # Errors
     ///
-    /// `AllocError` for want of memory; then nothing is known any more.
+    /// `AllocError` for want of memory; then the note isn't read.
     pub fn add(
         &mut self,
         first: QueueNo,
         second: QueueNo,
         note: &Note<u64>,
     ) -> Result<(), AllocError>
-        ensures { OnOk result ((burst : ℕ) → (before : Notes ℕ) → length before < greatest_count → spec.KnowsStretch burst first second self.old before → spec.KnowsStretch burst first second self.new (note.now ∷ before)) }
+        ensures knows { OnOk result ((burst : ℕ) → (before : Notes ℕ) → length before < greatest_count → spec.KnowsStretch burst first second self.old before → spec.KnowsStretch burst first second self.new (note.now ∷ before)) }
+        ensures refused { OnErr result (self.new ≡ self.old) }
     {
         self.standing.add(note)?;
         self.begun = begun_after(&self.standing, self.begun, first, second);

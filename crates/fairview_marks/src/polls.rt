@@ -1,6 +1,6 @@
 //! The polls of a core as bars, and what a walk over a journal knows of them.
 
-ghost use Rattle.std.specs.Prelude.{◌≡◌, ◌<◌, ◌∷◌, ℕ, [], length, OnOk, IfOk};
+ghost use Rattle.std.specs.Prelude.{◌≡◌, ◌<◌, ◌∷◌, ℕ, [], length, OnErr, OnOk, IfOk};
 ghost use Rattle.base_words.specs.Journal.{Journal as Notes, with_last};
 ghost use Rattle.note_facts.specs.Accounts.{greatest_count};
 ghost use Rattle.note_facts.specs.Names.{known};
@@ -92,12 +92,14 @@ impl Polls {
     ///
     /// # Errors
     ///
-    /// `AllocError` for want of memory; then nothing is known any more.
+    /// `AllocError` for want of memory; then the note isn't read.
     pub fn add(&mut self, note: &Note<u64>) -> Result<(), AllocError>
-        ensures { OnOk result ((before : Notes ℕ) → length before < greatest_count → spec.KnowsPolls self.old before → spec.KnowsPolls self.new (note.now ∷ before)) }
+        ensures knows { OnOk result ((before : Notes ℕ) → length before < greatest_count → spec.KnowsPolls self.old before → spec.KnowsPolls self.new (note.now ∷ before)) }
+        ensures refused { OnErr result (self.new ≡ self.old) }
     {
+        self.queues.set_told(queue_told(note))?;
         self.clock.add(note);
-        self.queues.set_told(queue_told(note))
+        Ok(())
     }
 }
 

@@ -1,6 +1,6 @@
 //! What a walk over a journal knows of its queues.
 
-ghost use Rattle.std.specs.Prelude.{◌≡◌, ◌<◌, ◌∷◌, ℕ, [], length, OnOk};
+ghost use Rattle.std.specs.Prelude.{◌≡◌, ◌<◌, ◌∷◌, ℕ, [], length, OnErr, OnOk};
 ghost use Rattle.base_words.specs.Bursts.{has_bursts};
 ghost use Rattle.base_words.specs.Journal.{Journal as Notes};
 ghost use Rattle.base_words.specs.Picks.{turns};
@@ -53,16 +53,18 @@ impl Standing {
     ///
     /// # Errors
     ///
-    /// `AllocError` for want of memory; then nothing is known any more.
+    /// `AllocError` for want of memory; then the note isn't read.
     pub fn add(&mut self, note: &Note<u64>) -> Result<(), AllocError>
-        ensures { OnOk result ((burst : ℕ) (before : Notes ℕ) → length before < greatest_count → spec.KnowsStanding burst self.old before → spec.KnowsStanding burst self.new (note.now ∷ before)) }
+        ensures knows { OnOk result ((burst : ℕ) (before : Notes ℕ) → length before < greatest_count → spec.KnowsStanding burst self.old before → spec.KnowsStanding burst self.new (note.now ∷ before)) }
+        ensures refused { OnErr result (self.new ≡ self.old) }
     {
         let spot = self.parks.spot(note);
+        self.parks.add(note)?;
         self.clock.add(note);
         self.tallies
             .add(note, &spot.queue, &self.accounts, self.burst);
         self.accounts.add(note, &spot, self.burst);
-        self.parks.add(note)
+        Ok(())
     }
 
     /// Whether a note of its own ends a turn.

@@ -1,7 +1,7 @@
 -- What a walk over a journal knows of the notes that it has read.
-use Rattle.std.specs.Prelude.{◌≡◌, ℕ, zero, suc, ◌+◌, ◌-◌, ◌≤◌, List, get_or, length}
+use Rattle.std.specs.Prelude.{◌≡◌, ℕ, zero, suc, ◌+◌, ◌-◌, ◌<◌, ◌≤◌, List, get_or, length}
 use Rattle.base_words.specs.Commands.{created_count}
-use Rattle.base_words.specs.Journal.{Journal}
+use Rattle.base_words.specs.Journal.{Journal, at_place}
 use Rattle.base_words.specs.Picks.{turns}
 use Rattle.note_facts.specs.declared.accounts.Account.{Account}
 use Rattle.note_facts.specs.declared.accounts.Accounts.{Accounts}
@@ -59,3 +59,10 @@ pub record SumsView : Type 0 where
 pub record KnowsSums {T : Type 0} (burst : ℕ) (sums : SumsView) (journal : Journal T) : Type 0 where
   pub parks : KnowsParks sums.parks journal
   pub figures : KnowsFigures burst sums.figures journal
+
+-- the notes from one place up to some place before another were read: what told the notes before the first tells those before that one
+pub record HasReadSome {T : Type 0} (from to : ℕ) (journal : Journal T) (old new : SumsView) : Type 0 where
+  pub place : ℕ
+  pub after : from ≤ place
+  pub before : place < to
+  pub known : (burst : ℕ) → KnowsSums burst old (at_place from journal) → KnowsSums burst new (at_place place journal)

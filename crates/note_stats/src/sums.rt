@@ -1,13 +1,13 @@
 //! The sums of one journal, made in one walk over its notes.
 
-ghost use Rattle.std.specs.Prelude.{◌≡◌, ◌↔◌, ◌<◌, ◌≤◌, ◌∷◌, ℕ, [], length, OnOk, IfOk, IsTrue};
+ghost use Rattle.std.specs.Prelude.{◌≡◌, ◌↔◌, ◌<◌, ◌≤◌, ◌∷◌, ℕ, [], length, OnErr, OnOk, IfOk, IsTrue};
 ghost use Rattle.base_words.specs.Closing.{IsDrained};
 ghost use Rattle.base_words.specs.Journal.{Journal as Notes, at_place};
 ghost use Rattle.base_words.specs.Lag.{greatest_charge};
 ghost use Rattle.note_facts.specs.Accounts.{greatest_count};
 ghost use Rattle.base_words.specs.Stats as spec;
 ghost use Rattle.base_words.specs.Sums.{charges};
-ghost use Rattle.note_stats.specs.Walks.{KnowsSums};
+ghost use Rattle.note_stats.specs.Walks.{HasReadSome, KnowsSums};
 
 use crate::figures::Figures;
 use base_words::{CoreStats, Note, QueueNo, QueueStats};
@@ -44,23 +44,26 @@ impl Sums {
         }
     }
 
-    /// Reads the next note.
+    /// Reads the next note. After an `Err` it isn't read.
     fn add(&mut self, note: &Note<u64>) -> Result<(), AllocError>
-        ensures { OnOk result ((burst : ℕ) (before : Notes ℕ) → length before < greatest_count → KnowsSums burst self.old before → KnowsSums burst self.new (note.now ∷ before)) }
+        ensures knows { OnOk result ((burst : ℕ) (before : Notes ℕ) → length before < greatest_count → KnowsSums burst self.old before → KnowsSums burst self.new (note.now ∷ before)) }
+        ensures refused { OnErr result (self.new ≡ self.old) }
     {
         let spot = self.parks.spot(note);
+        self.parks.add(note)?;
         self.figures.add(note, &spot);
-        self.parks.add(note)
+        Ok(())
     }
 
     /// Reads the notes from one place to another, after those before the first place.
     ///
     /// # Errors
     ///
-    /// `AllocError` for want of memory; then nothing is known any more.
+    /// `AllocError` for want of memory; then the notes up to some place are read.
     pub fn read(&mut self, journal: &Journal<u64>, from: usize, to: usize) -> Result<(), AllocError>
         requires { from ≤ to }
-        ensures { OnOk result ((burst : ℕ) → KnowsSums burst self.old (at_place from journal.now.notes) → KnowsSums burst self.new (at_place to journal.now.notes)) }
+        ensures knows { OnOk result ((burst : ℕ) → KnowsSums burst self.old (at_place from journal.now.notes) → KnowsSums burst self.new (at_place to journal.now.notes)) }
+        ensures refused { OnErr result (HasReadSome from to journal.now.notes self.old self.new) }
     {
         let end = to.min(journal.len());
         for place in from..end {

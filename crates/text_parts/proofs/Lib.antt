@@ -7,3 +7,4 @@ pub mod HouseLaws
 pub mod HouseReads
 pub mod HousesRefused
 pub mod WholeLemmas
+pub mod Fronts

@@ -1,6 +1,7 @@
 //! Writes a note as bytes.
 
 ghost use Rattle.std.specs.Prelude.{◌≡◌, ◌≤◌, ◌++◌, ◌∷◌, [], OnOk, length};
+ghost use Rattle.base_words.specs.Assembly.{IsPrefix};
 ghost use Rattle.text_parts.specs.NoteBytes as spec;
 
 use base_words::{Answer, JobId, Mode, Note, Order, OutcomeNote, QueueNo, Reason, Shares};
@@ -10,9 +11,10 @@ use std::alloc::AllocError;
 ///
 /// # Errors
 ///
-/// There is no memory for it. A first part of it may then stand there.
+/// There is no memory for it. A first part of it may then stand behind what was there.
 pub fn put_note(note: Note<u64>, out: &mut Vec<u8>) -> Result<(), AllocError>
-    ensures { OnOk result (out.new.items ≡ out.old.items ++ spec.note_bytes note) }
+    ensures bytes { OnOk result (out.new.items ≡ out.old.items ++ spec.note_bytes note) }
+    ensures front { IsPrefix out.old.items out.new.items }
 {
     match note {
         Note::Sent(name, order) => put_sent(name, order, out),
@@ -40,27 +42,38 @@ pub fn put_note(note: Note<u64>, out: &mut Vec<u8>) -> Result<(), AllocError>
     }
 }
 
+/// Puts bytes.
+pub(crate) fn put_bytes(bytes: &[u8], out: &mut Vec<u8>) -> Result<(), AllocError>
+    ensures bytes { OnOk result (out.new.items ≡ out.old.items ++ bytes.now) }
+    ensures front { IsPrefix out.old.items out.new.items }
+{
+    out.extend_from_slice(bytes)
+}
+
 /// Puts a number of eight bytes.
 #[tactic(auto, unfolding(crate::specs::NoteBytes::wide))]
 pub(crate) fn put_wide(number: u64, out: &mut Vec<u8>) -> Result<(), AllocError>
-    ensures { OnOk result (out.new.items ≡ out.old.items ++ spec.wide number) }
+    ensures bytes { OnOk result (out.new.items ≡ out.old.items ++ spec.wide number) }
+    ensures front { IsPrefix out.old.items out.new.items }
 {
-    out.extend_from_slice(&number.to_le_bytes())
+    put_bytes(&number.to_le_bytes(), out)
 }
 
 /// Puts a number of two bytes.
 #[tactic(auto, unfolding(crate::specs::NoteBytes::short))]
 pub(crate) fn put_short(number: u16, out: &mut Vec<u8>) -> Result<(), AllocError>
-    ensures { OnOk result (out.new.items ≡ out.old.items ++ spec.short number) }
+    ensures bytes { OnOk result (out.new.items ≡ out.old.items ++ spec.short number) }
+    ensures front { IsPrefix out.old.items out.new.items }
 {
-    out.extend_from_slice(&number.to_le_bytes())
+    put_bytes(&number.to_le_bytes(), out)
 }
 
 /// Puts a kind, and a name.
 fn put_name(kind: u8, name: JobId, out: &mut Vec<u8>) -> Result<(), AllocError>
-    ensures { OnOk result (out.new.items ≡ out.old.items ++ kind ∷ spec.name_bytes name) }
+    ensures bytes { OnOk result (out.new.items ≡ out.old.items ++ kind ∷ spec.name_bytes name) }
+    ensures front { IsPrefix out.old.items out.new.items }
 {
-    out.extend_from_slice(&named(kind, name))
+    put_bytes(&named(kind, name), out)
 }
 
 /// A kind, and a name.
@@ -134,9 +147,10 @@ fn byte_wide(kind: u8, byte: u8, number: u64) -> [u8; 10]
 }
 
 fn put_name_byte(kind: u8, name: JobId, byte: u8, out: &mut Vec<u8>) -> Result<(), AllocError>
-    ensures { OnOk result (out.new.items ≡ out.old.items ++ kind ∷ (spec.name_bytes name ++ byte ∷ [])) }
+    ensures bytes { OnOk result (out.new.items ≡ out.old.items ++ kind ∷ (spec.name_bytes name ++ byte ∷ [])) }
+    ensures front { IsPrefix out.old.items out.new.items }
 {
-    out.extend_from_slice(&with_byte(kind, name, byte))
+    put_bytes(&with_byte(kind, name, byte), out)
 }
 
 fn put_name_reason(
@@ -145,32 +159,37 @@ fn put_name_reason(
     reason: Reason,
     out: &mut Vec<u8>,
 ) -> Result<(), AllocError>
-    ensures { OnOk result (out.new.items ≡ out.old.items ++ kind ∷ (spec.name_bytes name ++ spec.reason_bytes reason)) }
+    ensures bytes { OnOk result (out.new.items ≡ out.old.items ++ kind ∷ (spec.name_bytes name ++ spec.reason_bytes reason)) }
+    ensures front { IsPrefix out.old.items out.new.items }
 {
     put_name_byte(kind, name, reason_byte(reason), out)
 }
 
 fn put_name_time(kind: u8, name: JobId, time: u64, out: &mut Vec<u8>) -> Result<(), AllocError>
-    ensures { OnOk result (out.new.items ≡ out.old.items ++ kind ∷ (spec.name_bytes name ++ spec.wide time)) }
+    ensures bytes { OnOk result (out.new.items ≡ out.old.items ++ kind ∷ (spec.name_bytes name ++ spec.wide time)) }
+    ensures front { IsPrefix out.old.items out.new.items }
 {
-    out.extend_from_slice(&with_time(kind, name, time))
+    put_bytes(&with_time(kind, name, time), out)
 }
 
 fn put_done(name: JobId, time: u64, value: u64, out: &mut Vec<u8>) -> Result<(), AllocError>
-    ensures { OnOk result (out.new.items ≡ out.old.items ++ 15 ∷ (spec.name_bytes name ++ (spec.wide time ++ spec.wide value))) }
+    ensures bytes { OnOk result (out.new.items ≡ out.old.items ++ 15 ∷ (spec.name_bytes name ++ (spec.wide time ++ spec.wide value))) }
+    ensures front { IsPrefix out.old.items out.new.items }
 {
     put_name_time(15, name, time, out)?;
     put_wide(value, out)
 }
 
 fn put_byte_wide(kind: u8, byte: u8, number: u64, out: &mut Vec<u8>) -> Result<(), AllocError>
-    ensures { OnOk result (out.new.items ≡ out.old.items ++ kind ∷ byte ∷ spec.wide number) }
+    ensures bytes { OnOk result (out.new.items ≡ out.old.items ++ kind ∷ byte ∷ spec.wide number) }
+    ensures front { IsPrefix out.old.items out.new.items }
 {
-    out.extend_from_slice(&byte_wide(kind, byte, number))
+    put_bytes(&byte_wide(kind, byte, number), out)
 }
 
 fn put_pick(queue: QueueNo, runtime: u128, out: &mut Vec<u8>) -> Result<(), AllocError>
-    ensures { OnOk result (out.new.items ≡ out.old.items ++ 9 ∷ queue ∷ spec.runtime_bytes runtime) }
+    ensures bytes { OnOk result (out.new.items ≡ out.old.items ++ 9 ∷ queue ∷ spec.runtime_bytes runtime) }
+    ensures front { IsPrefix out.old.items out.new.items }
 {
     let low = (runtime % (1 << 64)) as u64;
     let high = (runtime / (1 << 64)) as u64;
@@ -179,22 +198,25 @@ fn put_pick(queue: QueueNo, runtime: u128, out: &mut Vec<u8>) -> Result<(), Allo
 }
 
 fn put_shares(kind: u8, queue: QueueNo, shares: Shares, out: &mut Vec<u8>) -> Result<(), AllocError>
-    ensures { OnOk result (out.new.items ≡ out.old.items ++ kind ∷ queue ∷ spec.short shares) }
+    ensures bytes { OnOk result (out.new.items ≡ out.old.items ++ kind ∷ queue ∷ spec.short shares) }
+    ensures front { IsPrefix out.old.items out.new.items }
 {
-    out.extend_from_slice(&[kind, queue.0])?;
+    put_bytes(&[kind, queue.0], out)?;
     put_short(shares.get() as u16, out)
 }
 
 fn put_mode(kind: u8, mode: Mode, out: &mut Vec<u8>) -> Result<(), AllocError>
-    ensures { OnOk result (out.new.items ≡ out.old.items ++ kind ∷ spec.mode_bytes mode) }
+    ensures bytes { OnOk result (out.new.items ≡ out.old.items ++ kind ∷ spec.mode_bytes mode) }
+    ensures front { IsPrefix out.old.items out.new.items }
 {
-    out.extend_from_slice(&[kind, mode_byte(mode)])
+    put_bytes(&[kind, mode_byte(mode)], out)
 }
 
 fn put_closed(kind: u8, queue: QueueNo, mode: Mode, out: &mut Vec<u8>) -> Result<(), AllocError>
-    ensures { OnOk result (out.new.items ≡ out.old.items ++ kind ∷ queue ∷ spec.mode_bytes mode) }
+    ensures bytes { OnOk result (out.new.items ≡ out.old.items ++ kind ∷ queue ∷ spec.mode_bytes mode) }
+    ensures front { IsPrefix out.old.items out.new.items }
 {
-    out.extend_from_slice(&[kind, queue.0, mode_byte(mode)])
+    put_bytes(&[kind, queue.0, mode_byte(mode)], out)
 }
 
 fn mode_byte(mode: Mode) -> u8
@@ -219,17 +241,19 @@ fn reason_byte(reason: Reason) -> u8
 }
 
 fn put_answered(name: JobId, answer: Answer, out: &mut Vec<u8>) -> Result<(), AllocError>
-    ensures { OnOk result (out.new.items ≡ out.old.items ++ 3 ∷ (spec.name_bytes name ++ spec.answer_bytes answer)) }
+    ensures bytes { OnOk result (out.new.items ≡ out.old.items ++ 3 ∷ (spec.name_bytes name ++ spec.answer_bytes answer)) }
+    ensures front { IsPrefix out.old.items out.new.items }
 {
     put_name(3, name, out)?;
     put_answer(answer, out)
 }
 
 fn put_answer(answer: Answer, out: &mut Vec<u8>) -> Result<(), AllocError>
-    ensures { OnOk result (out.new.items ≡ out.old.items ++ spec.answer_bytes answer) }
+    ensures bytes { OnOk result (out.new.items ≡ out.old.items ++ spec.answer_bytes answer) }
+    ensures front { IsPrefix out.old.items out.new.items }
 {
     match answer {
-        Answer::Created(queue) => out.extend_from_slice(&[0, queue.0]),
+        Answer::Created(queue) => put_bytes(&[0, queue.0], out),
         Answer::TooMany => put_byte(1, out),
         Answer::NoMemory => put_byte(2, out),
         Answer::CoreClosing => put_byte(3, out),
@@ -243,17 +267,18 @@ fn put_answer(answer: Answer, out: &mut Vec<u8>) -> Result<(), AllocError>
 }
 
 fn put_byte(byte: u8, out: &mut Vec<u8>) -> Result<(), AllocError>
-    ensures { OnOk result (out.new.items ≡ out.old.items ++ byte ∷ []) }
+    ensures bytes { OnOk result (out.new.items ≡ out.old.items ++ byte ∷ []) }
+    ensures front { IsPrefix out.old.items out.new.items }
 {
-    out.push(byte)?;
-    Ok(())
+    put_bytes(&[byte], out)
 }
 
 fn put_sent(name: JobId, order: Order<()>, out: &mut Vec<u8>) -> Result<(), AllocError>
-    ensures { OnOk result (out.new.items ≡ out.old.items ++ 0 ∷ (spec.name_bytes name ++ spec.order_bytes order)) }
+    ensures bytes { OnOk result (out.new.items ≡ out.old.items ++ 0 ∷ (spec.name_bytes name ++ spec.order_bytes order)) }
+    ensures front { IsPrefix out.old.items out.new.items }
 {
     match order {
-        Order::Job(queue, ()) => out.extend_from_slice(&with_two(0, name, 0, queue.0)),
+        Order::Job(queue, ()) => put_bytes(&with_two(0, name, 0, queue.0), out),
         _ => {
             put_name(0, name, out)?;
             put_order(order, out)
@@ -262,10 +287,11 @@ fn put_sent(name: JobId, order: Order<()>, out: &mut Vec<u8>) -> Result<(), Allo
 }
 
 fn put_order(order: Order<()>, out: &mut Vec<u8>) -> Result<(), AllocError>
-    ensures { OnOk result (out.new.items ≡ out.old.items ++ spec.order_bytes order) }
+    ensures bytes { OnOk result (out.new.items ≡ out.old.items ++ spec.order_bytes order) }
+    ensures front { IsPrefix out.old.items out.new.items }
 {
     match order {
-        Order::Job(queue, ()) => out.extend_from_slice(&[0, queue.0]),
+        Order::Job(queue, ()) => put_bytes(&[0, queue.0], out),
         Order::Create(shares) => {
             put_byte(1, out)?;
             put_short(shares.get() as u16, out)
@@ -283,7 +309,8 @@ fn put_outcome(
     outcome: OutcomeNote<u64>,
     out: &mut Vec<u8>,
 ) -> Result<(), AllocError>
-    ensures { OnOk result (out.new.items ≡ out.old.items ++ kind ∷ (spec.name_bytes name ++ spec.outcome_bytes outcome)) }
+    ensures bytes { OnOk result (out.new.items ≡ out.old.items ++ kind ∷ (spec.name_bytes name ++ spec.outcome_bytes outcome)) }
+    ensures front { IsPrefix out.old.items out.new.items }
 {
     put_name(kind, name, out)?;
     match outcome {
@@ -291,7 +318,7 @@ fn put_outcome(
             put_byte(0, out)?;
             put_wide(value, out)
         }
-        OutcomeNote::Returned(reason) => out.extend_from_slice(&[1, reason_byte(reason)]),
+        OutcomeNote::Returned(reason) => put_bytes(&[1, reason_byte(reason)], out),
         OutcomeNote::Answered(answer) => {
             put_byte(2, out)?;
             put_answer(answer, out)

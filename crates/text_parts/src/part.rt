@@ -1,13 +1,14 @@
 //! Parts of a journal as bytes.
 
 ghost use Rattle.std.specs.Prelude.{◌≡◌, ◌<◌, ◌++◌, ◌^◌, IfOk, OnOk, drop, length};
+ghost use Rattle.base_words.specs.Assembly.{IsPrefix};
 ghost use Rattle.text_parts.specs.ByteNotes.{Gives};
 ghost use Rattle.text_parts.specs.PartLaws.{HasHead};
 ghost use Rattle.text_parts.specs.Parts as spec;
 
 use crate::byte_fields::{byte_at, wide_at};
 use crate::byte_notes::note_at;
-use crate::note_bytes::{note_size, put_note, put_wide};
+use crate::note_bytes::{note_size, put_bytes, put_note, put_wide};
 use base_words::{ActorNo, Note};
 use std::alloc::{AllocError, AllocFailed, Global};
 use text_words::field::is_word;
@@ -62,11 +63,11 @@ impl<T: Drop> From<AllocFailed<T>> for PartError {
     }
 }
 
-/// Puts a part behind the bytes of a vector. It asks for no memory if the vector has room. Behind an `Err` the vector's end says nothing.
+/// Puts a part behind the bytes of a vector. It asks for no memory if the vector has room.
 ///
 /// # Errors
 ///
-/// There is no memory for it.
+/// There is no memory for it. Other bytes may then stand behind what was there.
 pub fn put_part(
     actor: ActorNo,
     before: u64,
@@ -75,6 +76,7 @@ pub fn put_part(
 ) -> Result<(), AllocError>
     requires { length notes.now < 2 ^ 32 }
     ensures bytes { OnOk result (out.new.items ≡ out.old.items ++ spec.part_bytes (record { actor = actor; before = before; notes = notes.now })) }
+    ensures front { IsPrefix out.old.items out.new.items }
     ensures head { HasHead (spec.head_of (record { actor = actor; before = before; notes = notes.now })) }
 {
     let start = out.len();
@@ -91,10 +93,10 @@ pub fn put_part(
 
 /// Puts the mark and a head.
 fn put_head(head: Head, out: &mut Vec<u8>) -> Result<(), AllocError>
-    ensures { OnOk result (out.new.items ≡ out.old.items ++ (spec.mark ++ spec.head_bytes head)) }
+    ensures bytes { OnOk result (out.new.items ≡ out.old.items ++ (spec.mark ++ spec.head_bytes head)) }
+    ensures front { IsPrefix out.old.items out.new.items }
 {
-    out.extend_from_slice(b"fxp1")?;
-    out.push(head.actor.0)?;
+    put_bytes(&[b'f', b'x', b'p', b'1', head.actor.0], out)?;
     put_wide(head.before, out)?;
     put_wide(head.count, out)?;
     put_wide(head.size, out)
@@ -102,7 +104,8 @@ fn put_head(head: Head, out: &mut Vec<u8>) -> Result<(), AllocError>
 
 /// Puts notes.
 fn put_notes(notes: &[Note<u64>], out: &mut Vec<u8>) -> Result<(), AllocError>
-    ensures { OnOk result (out.new.items ≡ out.old.items ++ spec.body_bytes notes.now) }
+    ensures bytes { OnOk result (out.new.items ≡ out.old.items ++ spec.body_bytes notes.now) }
+    ensures front { IsPrefix out.old.items out.new.items }
 {
     for note in notes {
         put_note(*note, out)?;
@@ -113,7 +116,8 @@ fn put_notes(notes: &[Note<u64>], out: &mut Vec<u8>) -> Result<(), AllocError>
 /// Puts the sums of the bytes from this place on.
 fn put_sums(start: usize, out: &mut Vec<u8>) -> Result<(), AllocError>
     requires { start < length out.old.items }
-    ensures { OnOk result (out.new.items ≡ out.old.items ++ spec.sums_bytes (spec.sums_of (drop start out.old.items))) }
+    ensures bytes { OnOk result (out.new.items ≡ out.old.items ++ spec.sums_bytes (spec.sums_of (drop start out.old.items))) }
+    ensures front { IsPrefix out.old.items out.new.items }
 {
     let sums = sums_behind((0, 0), &out.as_slice()[start..]);
     put_wide(sums.0, out)?;

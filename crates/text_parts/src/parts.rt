@@ -1,6 +1,7 @@
 //! The journals of a house as bytes: its numbers, and parts one behind the other, actor after actor.
 
 ghost use Rattle.std.specs.Prelude.{◌≡◌, ◌+◌, ◌<◌, ◌≤◌, ◌↔◌, ◌++◌, ℕ, List, [], All, Ok, Some, IfErr, IfOk, IsTrue, OnOk, length};
+ghost use Rattle.base_words.specs.Assembly.{IsPrefix};
 ghost use Rattle.base_words.specs.Limits.{most_notes};
 ghost use Rattle.base_words.specs.Spelled.{IsSpelled, IsSpelledNote};
 ghost use Rattle.note_journal.specs.Writers.{terms_seen};
@@ -12,7 +13,7 @@ ghost use Rattle.text_parts.specs.Parts.{PartView, part_at as read_part, part_se
 ghost use Rattle.text_parts.specs.Houses as spec;
 
 use crate::byte_fields::{byte_at, short_at};
-use crate::note_bytes::put_short;
+use crate::note_bytes::{put_bytes, put_short};
 use crate::part::{Part, PartCause, PartError, part_at};
 use base_words::{MOST_BURST, MOST_CAPACITY, MOST_CORES, MOST_NOTES, Note};
 use note_journal::Assembly;
@@ -99,12 +100,13 @@ pub fn pass_parts<T: NoteTaker>(
 ///
 /// # Errors
 ///
-/// There is no memory for them. A first part of them may then stand there.
+/// There is no memory for them. A first part of them may then stand behind what was there.
 pub fn put_house(house: HouseNumbers, out: &mut Vec<u8>) -> Result<(), AllocError>
-    ensures { OnOk result (out.new.items ≡ out.old.items ++ spec.house_bytes house) }
+    ensures bytes { OnOk result (out.new.items ≡ out.old.items ++ spec.house_bytes house) }
+    ensures front { IsPrefix out.old.items out.new.items }
 {
-    out.extend_from_slice(b"fxh1")?;
-    out.extend_from_slice(&[house.cores, house.burst])?;
+    put_bytes(b"fxh1", out)?;
+    put_bytes(&[house.cores, house.burst], out)?;
     put_short(house.cap, out)
 }
 

@@ -25,7 +25,7 @@ loop-place-preserved c =
     let notes = c.args.journal.now.notes in
     let before = at_place c.loop-place.place notes in
     let short : length before < greatest_count = omega (arith, length-at_place c.loop-place.place notes, c.len-place-end.ensures.value, c.len-place-end.ensures.limits) in
-    let knows = c.in_ok-add.ensures panel.burst before short c.loop-place.invariant.stretch in
+    let knows = c.in_ok-add.ensures.knows panel.burst before short c.loop-place.invariant.stretch in
     record {
       stretch = subst (λ (journal : Journal ℕ). KnowsStretch panel.burst panel.first panel.second c.add.new.self journal) (sym c.note_at-note.ensures) knows;
       sized = c.mark.ensures.sized;

@@ -14,7 +14,7 @@ loop-place-preserved c =
     let notes = c.args.journal.now.notes in
     let before = at_place c.loop-place.place notes in
     let short : length before < greatest_count = omega (arith, length-at_place c.loop-place.place notes, c.len-place-end.ensures.value, c.len-place-end.ensures.limits) in
-    subst (λ (journal : Journal ℕ). KnowsStanding c.args.burst c.add.new.self journal) (sym c.note_at.ensures) (c.in_ok-add.ensures c.args.burst before short c.loop-place.invariant)
+    subst (λ (journal : Journal ℕ). KnowsStanding c.args.burst c.add.new.self journal) (sym c.note_at.ensures) (c.in_ok-add.ensures.knows c.args.burst before short c.loop-place.invariant)
 
 pub returns : goal.returns
 returns c = whole_walk (λ (journal : Journal ℕ). KnowsStanding c.args.burst c.loop-place.standing journal) c.args.journal.now.notes c.loop-place.place (omega arith) c.loop-place.invariant

@@ -18,7 +18,7 @@ loop-place-preserved c =
     let before = at_place c.loop-place.place notes in
     let short : length before < greatest_count = omega (arith, length-at_place c.loop-place.place notes, c.len-place-end.ensures.value, c.len-place-end.ensures.limits) in
     record {
-      standing = subst (λ (journal : Journal ℕ). KnowsStanding c.args.burst c.add.new.self journal) (sym c.note_at-note.ensures) (c.in_ok-add.ensures c.args.burst before short c.loop-place.invariant.standing);
+      standing = subst (λ (journal : Journal ℕ). KnowsStanding c.args.burst c.add.new.self journal) (sym c.note_at-note.ensures) (c.in_ok-add.ensures.knows c.args.burst before short c.loop-place.invariant.standing);
       told =
           subst (λ (journal : Journal ℕ). c.push_lead.new.leads.items ≡ leads c.args.burst c.args.first c.args.second journal) (sym c.note_at-note.ensures)
           (c.in_ok-push_lead.ensures ∙ (λ i. with_last (c.loop-place.invariant.told i) (c.lead.ensures c.args.burst before short c.loop-place.invariant.standing i)));

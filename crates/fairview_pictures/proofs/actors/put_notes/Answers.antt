@@ -21,7 +21,7 @@ loop-place-preserved c =
     let short : length before < greatest_count = omega (arith, length-at_place c.loop-place.place notes, c.len-place-end.ensures.value, c.len-place-end.ensures.limits) in
     let reached = place_reached c.loop-place.place notes (omega (arith, c.loop-place-test.true, c.len-place-end.ensures.value)) in
     record {
-      polls = subst (λ (journal : Journal ℕ). KnowsPolls c.add.new.self journal) (sym c.note_at-note.ensures) (c.in_ok-add.ensures before short c.loop-place.invariant.polls);
+      polls = subst (λ (journal : Journal ℕ). KnowsPolls c.add.new.self journal) (sym c.note_at-note.ensures) (c.in_ok-add.ensures.knows before short c.loop-place.invariant.polls);
       put =
           subst (λ (journal : Journal ℕ). string_bytes c.put_note.new.page ≡ string_bytes c.args.page.now ++ notes_text c.args.times.now c.args.actor journal)
           (sym c.note_at-note.ensures)

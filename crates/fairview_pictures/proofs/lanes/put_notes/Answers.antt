@@ -20,7 +20,7 @@ loop-place-preserved c =
     let before = at_place c.loop-place.place notes in
     let short : length before < greatest_count = omega (arith, length-at_place c.loop-place.place notes, c.len-place-end.ensures.value, c.len-place-end.ensures.limits) in
     record {
-      polls = subst (λ (journal : Journal ℕ). KnowsPolls c.add.new.self journal) (sym c.note_at-note.ensures) (c.in_ok-add.ensures before short c.loop-place.invariant.polls);
+      polls = subst (λ (journal : Journal ℕ). KnowsPolls c.add.new.self journal) (sym c.note_at-note.ensures) (c.in_ok-add.ensures.knows before short c.loop-place.invariant.polls);
       put =
           subst (λ (journal : Journal ℕ). string_bytes c.put_note.new.page ≡ string_bytes c.args.page.now ++ notes_text c.args.frame.now journal) (sym c.note_at-note.ensures)
           (after_note c.args.frame.now c.note_at-note.result before _ _ _ c.loop-place.invariant.put (c.in_ok-put_note.ensures before c.loop-place.invariant.polls));

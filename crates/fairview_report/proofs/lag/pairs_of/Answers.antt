@@ -18,7 +18,7 @@ loop-core-preserved c =
     let walked = c.args.walked.now in
     after_one (λ core. core_pairs assembly.burst core (journal_of core assembly)) c.loop-core.core [] c.loop-core.pairs.items c.push_pairs.new.pairs.items
     (c.loop-core.invariant assembly knows)
-    (c.in_ok-push_pairs.ensures assembly.burst (journal_of c.loop-core.core assembly)
+    (c.in_ok-push_pairs.ensures.all assembly.burst (journal_of c.loop-core.core assembly)
     (tells_at (λ lags burst journal. KnowsLags {T = ℕ} burst lags journal) walked.cores walked.burst walked.each.items assembly c.loop-core.core c.index.result.now knows (omega arith) c.index.ensures))
 
 pub returns : goal.returns

@@ -9,8 +9,8 @@ use Rattle.note_stats.proofs.stats.gained.Goals as goal
 pub returns : goal.returns
 returns c =
     let notes = c.args.journal.now.notes in
-    let first = c.in_ok-read.ensures c.args.burst (subst (λ (before : Journal ℕ). KnowsSums c.args.burst c.new-sums.result before) (sym (at_start notes)) c.new-sums.ensures) in
-    let second = c.in_ok-read-2.ensures c.args.burst first in
+    let first = c.in_ok-read.ensures.knows c.args.burst (subst (λ (before : Journal ℕ). KnowsSums c.args.burst c.new-sums.result before) (sym (at_start notes)) c.new-sums.ensures) in
+    let second = c.in_ok-read-2.ensures.knows c.args.burst first in
     c.saturating_sub.ensures ∙
     (ap (λ later. later - c.charged-earlier.result) (c.charged.ensures _ _ second) ∙
     (ap (λ earlier. charges c.args.burst c.args.queue (at_place c.args.to notes) - earlier) (c.charged-earlier.ensures _ _ first) ∙

@@ -15,7 +15,7 @@ loop-place-preserved c =
     let before = at_place c.loop-place.place notes in
     let short : length before < greatest_count = omega (arith, length-at_place c.loop-place.place notes, c.len-place-end.ensures.value, c.len-place-end.ensures.limits) in
     subst (λ (journal : Journal ℕ). KnowsLags c.args.burst c.add.new.self journal) (sym c.note_at-note.ensures)
-    (c.in_ok-add.ensures c.args.burst before short c.loop-place.invariant)
+    (c.in_ok-add.ensures.knows c.args.burst before short c.loop-place.invariant)
 
 pub returns : goal.returns
 returns c =

@@ -8,4 +8,4 @@ pub returns : goal.returns
 returns c =
     let notes = c.args.journal.now.notes in
     subst (λ (before : Journal ℕ). KnowsSums c.args.burst c.read.new.self before) (ap (λ place. at_place place notes) c.len.ensures.value ∙ at_end notes)
-    (c.in_ok-read.ensures c.args.burst (subst (λ (before : Journal ℕ). KnowsSums c.args.burst c.new-sums.result before) (sym (at_start notes)) c.new-sums.ensures))
+    (c.in_ok-read.ensures.knows c.args.burst (subst (λ (before : Journal ℕ). KnowsSums c.args.burst c.new-sums.result before) (sym (at_start notes)) c.new-sums.ensures))

@@ -15,11 +15,11 @@ loop-place-preserved c =
       known =
           λ burst knows.
           subst (λ (before : Journal ℕ). KnowsSums burst c.add.new.self before) (sym c.note_at-note.ensures)
-          (c.in_ok-add.ensures burst _ read (c.loop-place.invariant.known burst knows));
+          (c.in_ok-add.ensures.knows burst _ read (c.loop-place.invariant.known burst knows));
     }
 
-pub returns : goal.returns
-returns c =
+pub returns-clause-knows : goal.returns-clause-knows
+returns-clause-knows c =
     λ burst knows.
     subst (λ (before : Journal ℕ). KnowsSums burst c.loop-place.self before)
     (same_place c.loop-place.place c.args.to c.args.journal.now.notes (omega (arith, c.loop-place-test.false, c.min-end.ensures)) c.loop-place.invariant.within)
