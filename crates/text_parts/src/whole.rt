@@ -1,6 +1,6 @@
 //! Reads the journals of a house as bytes, and tells them as text.
 
-ghost use Rattle.std.specs.Prelude.{◌≡◌, IfErr, IfOk, IfSome};
+ghost use Rattle.std.specs.Prelude.{◌≡◌, ℕ, List, IfErr, IfOk, IfSome};
 ghost use Rattle.std.specs.Io.KnownBytes.{Consumes, IsAtEnd};
 ghost use Rattle.base_words.specs.Spelled.{IsSpelled};
 ghost use Rattle.text_bytes.specs.Tries.{HasFailedSince};
@@ -26,13 +26,14 @@ const PAGE: usize = 8192;
 /// # Errors
 ///
 /// The first byte from which on they are faulty, and the cause (`Faulty`), a failed read or 1000 interrupted ones in a row (`Read`), want
-/// of memory (`Memory`).
+/// of memory (`Memory`). Bytes of the source may be read by then, from its front on, and none else.
 pub fn text_of_parts<S: Source>(alloc: Global, source: &mut S) -> Result<Vec<u8>, BytesFault>
     ensures ok { IfOk result (λ text. IfSome (S.remaining source.old) (MakesText text.items)) }
     ensures end { IfOk result (λ text. IsAtEnd (S.remaining source.new)) }
     ensures faulty { IfErr result (IfBytes (λ place cause. IfSome (S.remaining source.old) (λ bytes. IsFault bytes place cause))) }
     ensures device { IfErr result (IfUnwritten ⊥) }
     ensures failed { IfErr result (IfRead (HasFailedSince S.tries S.interrupts S.fails source.old source.new)) }
+    ensures taken { (taken : List ℕ) × Consumes (S.remaining source.old) (S.remaining source.new) taken }
 {
     match read_all(alloc, source) {
         Ok(bytes) => text_in(alloc, &bytes),
@@ -47,6 +48,7 @@ fn read_all<S: Source>(alloc: Global, source: &mut S) -> Result<Vec<u8>, BytesFa
     ensures faulty { IfErr result (IfBytes (λ place cause. ⊥)) }
     ensures device { IfErr result (IfUnwritten ⊥) }
     ensures failed { IfErr result (IfRead (HasFailedSince S.tries S.interrupts S.fails source.old source.new)) }
+    ensures taken { (taken : List ℕ) × Consumes (S.remaining source.old) (S.remaining source.new) taken }
 {
     let mut page = [0u8; PAGE];
     let mut bytes = Vec::new(alloc);

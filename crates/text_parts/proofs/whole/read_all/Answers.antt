@@ -22,3 +22,6 @@ returns-then-count-eq0-clause-ok g c =
 
 pub returns-then-count-eq0-clause-end : goal.returns-then-count-eq0-clause-end
 returns-then-count-eq0-clause-end g c = c.in-Ok.ensures.end c.if-count-eq0.true (omega (arith, c.loop-page.invariant.room))
+
+pub returns-in_err-extend_from_slice-clause-taken : goal.returns-in_err-extend_from_slice-clause-taken
+returns-in_err-extend_from_slice-clause-taken g c = (_, Consumes-trans _ _ _ _ _ c.loop-page.invariant.seen c.in-Ok.ensures.bytes)
