@@ -16,7 +16,8 @@ use base_words::{Outcome, Ticket, TicketError};
 use note_journal::Sink;
 use std::sync::Wait;
 
-/// One look of one that follows. It can't be dropped: only the look ends it.
+/// One that follows, while it looks.
+#[derive(Drop)]
 pub(crate) struct Follower<'a, J: Task<Out = u64>, S: Sink, H: Beside<Job = J>, R> {
     shared: &'a Shared<J, S, H>,
     rt: &'a R,
@@ -33,7 +34,7 @@ pub(crate) fn follow<J: Task<Out = u64>, S: Sink, H: Beside<Job = J>, R: Wait>(
 {
     for _ in rt.forever() {
         let follower = Follower { shared, rt, ticket };
-        let (answer, quiet) = shared.moved.lie_down().look(follower);
+        let (answer, quiet) = shared.moved.lie_down().look(&follower);
         match quiet {
             Some(quiet) => quiet.sleep(rt),
             None => return answer,
@@ -45,15 +46,14 @@ pub(crate) fn follow<J: Task<Out = u64>, S: Sink, H: Beside<Job = J>, R: Wait>(
 impl<J: Task<Out = u64>, S: Sink, H: Beside<Job = J>, R: Wait> Follower<'_, J, S, H, R> {
     /// Redeems, and says whether there was something: the outcome, or that nobody leads.
     #[tactic(auto, using(crate::proofs::CallsMade::redeem_call))]
-    pub(crate) fn looks(self) -> (Result<Outcome<J, u64>, TicketError>, bool)
-        ensures redeems { IsAmongCalls J.meaning (λ old new. RedeemsHere (Fits J.meaning) self.entry.ticket old result.0 new) self.entry.shared.now.hall.table.shared.key.value }
+    pub(crate) fn looks(&self) -> (Result<Outcome<J, u64>, TicketError>, bool)
+        ensures redeems { IsAmongCalls J.meaning (λ old new. RedeemsHere (Fits J.meaning) self.now.ticket old result.0 new) self.now.shared.now.hall.table.shared.key.value }
         ensures quiet { result.1 ≡ false → result.0 ≡ Err Pending }
     {
-        let Follower { shared, rt, ticket } = self;
-        let (mut inside, loan) = shared.hall.take(rt);
-        let answer = inside.caller.redeem(ticket);
+        let (mut inside, loan) = self.shared.hall.take(self.rt);
+        let answer = inside.caller.redeem(self.ticket);
         let led = inside.is_led();
-        shared.hall.give(inside, loan);
+        self.shared.hall.give(inside, loan);
         let found = !led || !matches!(answer, Err(TicketError::Pending));
         (answer, found)
     }

@@ -1,7 +1,7 @@
 //! The event on which those handles sleep that follow, and the one way to sleep on it.
 //!
 //! A follower lies down, looks once more, and sleeps only if its look found nothing. The types force this order: a `Prepared` can only be handed
-//! to a look, which takes the `Follower` with it, and a `Quiet` is only given by a look. Neither of them has the event, and what has the event
+//! to the look of a `Follower`, and a `Quiet` is only given by that look. Neither of them has the event, and what has the event
 //! can't sleep, nor can a look. So a second sleep needs a second look.
 //!
 //! Whoever ends what a follower waits for owes a ring (`Due`), which can't be dropped.
@@ -76,9 +76,9 @@ impl<'a> Prepared<'a> {
     /// Looks once more. It gets up if there was something.
     pub(crate) fn look<J: Task<Out = u64>, S: Sink, H: Beside<Job = J>, R: Wait>(
         self,
-        follower: Follower<'_, J, S, H, R>,
+        follower: &Follower<'_, J, S, H, R>,
     ) -> (Result<Outcome<J, u64>, TicketError>, Option<Quiet<'a>>)
-        ensures redeems { IsAmongCalls J.meaning (λ old new. RedeemsHere (Fits J.meaning) follower.entry.ticket old result.0 new) follower.entry.shared.now.hall.table.shared.key.value }
+        ensures redeems { IsAmongCalls J.meaning (λ old new. RedeemsHere (Fits J.meaning) follower.now.ticket old result.0 new) follower.now.shared.now.hall.table.shared.key.value }
         ensures quiet { IfSome result.1 (λ _. result.0 ≡ Err Pending) }
     {
         let Prepared { key } = self;
