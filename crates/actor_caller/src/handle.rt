@@ -162,10 +162,14 @@ impl<J: Task<Out = u64>, S: Sink, H: Beside<Job = J>> Handle<J, S, H> {
     {
         let (mut inside, loan) = self.shared.hall.take(rt);
         let count = inside.caller.collect(core);
-        let leads = count > 0 && inside.tells_leader();
+        let due = if count > 0 {
+            inside.tells_leader()
+        } else {
+            None
+        };
         self.shared.hall.give(inside, loan);
-        if leads {
-            self.shared.moved.notify_all();
+        if let Some(due) = due {
+            self.shared.moved.ring(due);
         }
         count
     }

@@ -2,9 +2,9 @@
 //!
 //! A wait goes round until its outcome isn't pending:
 //!
-//! 1. With the lock it redeems. If the outcome is pending and another leads, it lies down on `moved` before the lock goes back, so it misses
-//!    no ring. If nobody leads it collects, and leads if nothing came.
-//! 2. Who leads looks for the outcomes of all, and sleeps on the outside actor's bell (looker.rt). Who follows sleeps on `moved`.
+//! 1. With the lock it redeems. If the outcome is pending and another leads, it follows. If nobody leads it collects, and leads if nothing came.
+//! 2. Who leads looks for the outcomes of all, and sleeps on the outside actor's bell (looker.rt). Who follows lies down on `moved`, redeems once
+//!    more, and sleeps if nothing came (follower.rt), so it misses no ring.
 //! 3. Then it redeems again. What came may be another's.
 //!
 //! A wait with a limit neither leads nor follows: it looks and naps.
@@ -16,12 +16,12 @@ ghost use Rattle.actor_caller.specs.Tickets.{RedeemsHere};
 ghost use Rattle.actor_caller.specs.Callers.{IsAmongCalls, MayCollect};
 
 use crate::caller::Beside;
+use crate::follower::follow;
 use crate::handle::{CallerTicket, Handle};
 use crate::looker::lead;
 use crate::shared::Inside;
 use base_jobs::Task;
 use base_words::{Outcome, Ticket, TicketError};
-use crossbeam_utils::sync::{EventCount, Key};
 use note_journal::Sink;
 use std::rt::Clock;
 use std::sync::Wait;
@@ -33,29 +33,25 @@ const NAP_MILLIS: u64 = 1;
 
 /// What one does whose outcome isn't there yet.
 #[derive(Drop)]
-enum Next<'a> {
+enum Next {
     /// Outcomes were collected: it looks again.
     Again,
     /// Nobody led: it leads.
     Lead,
     /// Another leads: it sleeps until that one rings.
-    Follow(Key<'a>),
+    Follow,
 }
 
 impl<J: Task<Out = u64>, S: Sink, H: Beside<Job = J>> Handle<J, S, H> {
     /// Redeems, and says what one does whose outcome isn't there yet.
     #[tactic(auto, using(crate::proofs::CallsMade::redeem_call, crate::proofs::CallsMade::may_call))]
-    fn look<R: Wait>(
-        &self,
-        rt: &R,
-        ticket: Ticket,
-    ) -> (Result<Outcome<J, u64>, TicketError>, Next<'_>)
+    fn look<R: Wait>(&self, rt: &R, ticket: Ticket) -> (Result<Outcome<J, u64>, TicketError>, Next)
         ensures { IsAmongCalls J.meaning (λ old new. RedeemsHere (Fits J.meaning) ticket old result.0 new) self.now.begun }
     {
         let (mut inside, loan) = self.shared.hall.take(rt);
         let answer = inside.caller.redeem(ticket);
         let next = match &answer {
-            Err(TicketError::Pending) => next_of(&mut inside, &self.shared.moved),
+            Err(TicketError::Pending) => next_of(&mut inside),
             _ => Next::Again,
         };
         self.shared.hall.give(inside, loan);
@@ -113,7 +109,7 @@ impl<J: Task<Out = u64>, S: Sink, H: Beside<Job = J>> Handle<J, S, H> {
         match next {
             Next::Again => {}
             Next::Lead => lead(&self.shared, rt),
-            Next::Follow(key) => key.wait(rt),
+            Next::Follow => return follow(&*self.shared, rt, ticket),
         }
         answer
     }
@@ -176,21 +172,16 @@ impl<J: Task<Out = u64>, S: Sink, H: Beside<Job = J>> Handle<J, S, H> {
 }
 
 /// What one does whose outcome isn't there. It collects if nobody leads.
-fn next_of<'a, J: Task<Out = u64>, S: Sink, H: Beside<Job = J>>(
-    inside: &mut Inside<J, S, H>,
-    moved: &'a EventCount,
-) -> Next<'a>
+fn next_of<J: Task<Out = u64>, S: Sink, H: Beside<Job = J>>(inside: &mut Inside<J, S, H>) -> Next
     ensures { MayCollect inside.old.caller inside.new.caller }
 {
-    if inside.leads {
-        // step: follow
-        return Next::Follow(moved.prepare_wait());
+    if inside.is_led() {
+        return Next::Follow;
     }
     if inside.caller.collect_all() {
         return Next::Again;
     }
-    inside.leads = true;
-    inside.told = false;
+    inside.begins_to_lead();
     Next::Lead
 }
 
@@ -198,7 +189,7 @@ fn next_of<'a, J: Task<Out = u64>, S: Sink, H: Beside<Job = J>>(
 fn collect_alone<J: Task<Out = u64>, S: Sink, H: Beside<Job = J>>(inside: &mut Inside<J, S, H>)
     ensures { MayCollect inside.old.caller inside.new.caller }
 {
-    if !inside.leads {
+    if !inside.is_led() {
         let _some = inside.caller.collect_all();
     }
 }

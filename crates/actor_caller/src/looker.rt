@@ -50,9 +50,9 @@ pub(crate) fn lead<J: Task<Out = u64>, S: Sink, H: Beside<Job = J>, R: Wait + Co
         looker.rest();
     }
     let (mut inside, loan) = shared.hall.take(rt);
-    inside.leads = false;
+    let due = inside.ends_leading();
     shared.hall.give(inside, loan);
-    shared.moved.notify_all();
+    shared.moved.ring(due);
 }
 
 impl<J: Task<Out = u64>, S: Sink, H: Beside<Job = J>, R: Wait + Copy + Drop> Looker<J, S, H, R> {

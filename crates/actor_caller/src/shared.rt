@@ -9,7 +9,7 @@
 //!
 //! 1. A handle's call takes the caller out, makes the same call of it, and gives it back. A wait has given it back before it sleeps.
 //! 2. Of those that wait one leads: it sleeps on the outside actor's bell, behind a look with the caller in its hands (looker.rt). The others
-//!    sleep on `moved`, on which they lie down with the caller in their hands. They collect nothing while one leads.
+//!    lie down on `moved`, look once more with the caller in their hands, and sleep (moved.rt). They collect nothing while one leads.
 //! 3. Whoever collects something rings `moved` behind it, and the leader's bell if another leads. Each looks for its own outcome then.
 
 ghost use Rattle.std.specs.Prelude.{◌≡◌, IfErr, IfOk};
@@ -19,9 +19,9 @@ ghost use Rattle.actor_caller.specs.Teams.{IsBeside};
 
 use crate::caller::{Beside, Caller};
 use crate::hall::{Hall, Keyed};
+use crate::moved::{Due, Moved};
 use crate::rings::Waker;
 use base_jobs::Task;
-use crossbeam_utils::sync::EventCount;
 use note_journal::Sink;
 use std::alloc::{AllocError, Global};
 use std::snapshot::Snapshot;
@@ -57,22 +57,45 @@ pub(crate) type Outside<J, S, H> = Caller<J, S, Away<H>>;
 #[derive(Drop)]
 pub(crate) struct Inside<J: Task<Out = u64>, S: Sink, H: Beside<Job = J>> {
     pub(crate) caller: Outside<J, S, H>,
-    pub(crate) leads: bool,
+    leads: bool,
     /// Whether another collected something since the leader looked.
     pub(crate) told: bool,
     waker: Waker,
 }
 
 impl<J: Task<Out = u64>, S: Sink, H: Beside<Job = J>> Inside<J, S, H> {
-    /// Wakes the leader, if there is one. Whether there is.
-    pub(crate) fn tells_leader(&mut self) -> bool
+    /// Whether one leads of those that wait.
+    #[inline(always)]
+    pub(crate) fn is_led(&self) -> bool {
+        self.leads
+    }
+
+    /// One leads from now on. Nobody did.
+    pub(crate) fn begins_to_lead(&mut self)
         ensures { self.new.caller ≡ self.old.caller }
     {
-        if self.leads {
-            self.told = true;
-            self.waker.wake();
+        self.leads = true;
+        self.told = false;
+    }
+
+    /// Nobody leads any more. Those who follow are owed a ring.
+    pub(crate) fn ends_leading(&mut self) -> Due
+        ensures { self.new.caller ≡ self.old.caller }
+    {
+        self.leads = false;
+        Due::ring()
+    }
+
+    /// Wakes the leader, if there is one. Then those who follow it are owed a ring.
+    pub(crate) fn tells_leader(&mut self) -> Option<Due>
+        ensures { self.new.caller ≡ self.old.caller }
+    {
+        if !self.leads {
+            return None;
         }
-        self.leads
+        self.told = true;
+        self.waker.wake();
+        Some(Due::ring())
     }
 }
 
@@ -91,8 +114,8 @@ impl<J: Task<Out = u64>, S: Sink, H: Beside<Job = J>> Keyed<Origin<J, S, H>>
 #[derive(Drop)]
 pub(crate) struct Shared<J: Task<Out = u64>, S: Sink, H: Beside<Job = J>> {
     pub(crate) hall: Hall<Box<Inside<J, S, H>, Global>, Origin<J, S, H>>,
-    /// Rung behind each collection, and when nobody leads any more.
-    pub(crate) moved: EventCount,
+    /// On which those sleep who follow.
+    pub(crate) moved: Moved,
 }
 
 /// What all handles share, with nobody behind the lock yet.
@@ -105,7 +128,7 @@ pub(crate) fn shared_of<J: Task<Out = u64>, S: Sink, H: Beside<Job = J>>(
     let hall = Hall::vacant(alloc, origin)?;
     let shared = Shared {
         hall,
-        moved: EventCount::new(),
+        moved: Moved::new(),
     };
     Ok(Arc::new(alloc, shared)?)
 }
