@@ -91,10 +91,19 @@ fn core_stats(core: &Hosted) -> (CoreStats, u32)
     ensures core { TellsCore core.now.recorded.core.cores core.now.recorded.journal.notes result.0 }
     ensures queues { IfCounted core.now (result.1 ≡ created_count core.now.recorded.journal.notes + 1) }
 {
-    if core.queue_count() <= FEW {
-        let (told, queues): (CoreStats, ArrayVec<QueueStats, 16>) = core.stats();
-        return (told, queues.len() as u32);
+    if core.queue_count() > FEW {
+        return core_of_many(core);
     }
+    let (told, queues): (CoreStats, ArrayVec<QueueStats, 16>) = core.stats();
+    (told, queues.len() as u32)
+}
+
+/// The same, however many queues there are. It stands apart, so that the call of a core of few has no place for so many.
+#[inline(never)]
+fn core_of_many(core: &Hosted) -> (CoreStats, u32)
+    ensures core { TellsCore core.now.recorded.core.cores core.now.recorded.journal.notes result.0 }
+    ensures queues { IfCounted core.now (result.1 ≡ created_count core.now.recorded.journal.notes + 1) }
+{
     let (told, queues): (CoreStats, ArrayVec<QueueStats, 256>) = core.stats();
     (told, queues.len() as u32)
 }
@@ -103,10 +112,18 @@ fn core_stats(core: &Hosted) -> (CoreStats, u32)
 fn stats_of(core: &Hosted, queue: u32) -> Option<QueueStats>
     ensures { IsSeatStatsOf core.now queue result }
 {
-    if core.queue_count() <= FEW {
-        let (_core, queues): (CoreStats, ArrayVec<QueueStats, 16>) = core.stats();
-        return stats_at(&queues, queue);
+    if core.queue_count() > FEW {
+        return stats_among_many(core, queue);
     }
+    let (_core, queues): (CoreStats, ArrayVec<QueueStats, 16>) = core.stats();
+    stats_at(&queues, queue)
+}
+
+/// The same, however many queues there are.
+#[inline(never)]
+fn stats_among_many(core: &Hosted, queue: u32) -> Option<QueueStats>
+    ensures { IsSeatStatsOf core.now queue result }
+{
     let (_core, queues): (CoreStats, ArrayVec<QueueStats, 256>) = core.stats();
     stats_at(&queues, queue)
 }
