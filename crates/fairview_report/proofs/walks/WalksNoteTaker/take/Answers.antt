@@ -14,4 +14,4 @@ returns g c =
       known = reads c.args.self.now.burst handed.notes (omega (arith, short)) walked.known;
     }
     )
-    c.read.ensures
+    c.read.ensures.read
