@@ -3,6 +3,7 @@
 ghost use Rattle.std.specs.Prelude.{◌≡◌, ◌≢◌, ◌+◌, ◌*◌, ◌^◌, ◌<◌, ◌≤◌, ◌↔◌, [], IfErr, IfOk, IsSome, IsTrue, length};
 ghost use Rattle.arrayvec.specs.ArrayVec.{array_vec_len};
 ghost use Rattle.base_words.specs.Closing.{IsDrained};
+ghost use Rattle.core_queues.specs.Queues.{queue_count};
 ghost use Rattle.actor_core.specs.Stats.{TellsCore, TellsQueues};
 ghost use Rattle.actor_seat.specs.Linked.{StaysLinked};
 ghost use Rattle.actor_seat.specs.Opening.{AreEndsOf, IsOpenedOver};
