@@ -104,6 +104,8 @@ fn core_of_many(core: &Hosted) -> (CoreStats, u32)
     ensures core { TellsCore core.now.recorded.core.cores core.now.recorded.journal.notes result.0 }
     ensures queues { IfCounted core.now (result.1 ≡ created_count core.now.recorded.journal.notes + 1) }
 {
+    // That there are at most 256 is known once they are counted.
+    let _count = core.queue_count();
     let (told, queues): (CoreStats, ArrayVec<QueueStats, 256>) = core.stats();
     (told, queues.len() as u32)
 }
@@ -124,6 +126,7 @@ fn stats_of(core: &Hosted, queue: u32) -> Option<QueueStats>
 fn stats_among_many(core: &Hosted, queue: u32) -> Option<QueueStats>
     ensures { IsSeatStatsOf core.now queue result }
 {
+    let _count = core.queue_count();
     let (_core, queues): (CoreStats, ArrayVec<QueueStats, 256>) = core.stats();
     stats_at(&queues, queue)
 }
