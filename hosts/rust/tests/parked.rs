@@ -75,7 +75,7 @@ fn more_tasks_wait_than_there_are_places() -> Result<(), Error> {
         let some = std::mem::take(&mut *wakers.lock().expect("no panic"));
         woken += some.len();
         some.into_iter().for_each(Waker::wake);
-        assert!(began.elapsed() < Duration::from_secs(60), "{woken} waited");
+        assert!(began.elapsed() < Duration::from_secs(300), "{woken} waited");
         thread::sleep(Duration::from_millis(1));
     }
     outside.wait_for(&ticket).map(drop)?;
