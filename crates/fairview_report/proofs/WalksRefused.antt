@@ -46,4 +46,6 @@ refused = record {
       λ rows head has.
       longer head_text (poll_row 0 (poll_of 1 0 0 1 1 30 ends.Yield)) (sym head ∙ (has.page ∙ (row_before ∙ ap (λ rest. head_text ++ rest) (append-nil row))));
   outside = λ rows more has. absurd (omega (arith, more, ap length (has.page ∙ row_outside)));
+  read_of_none = λ journal old new has. absurd (omega (arith, has.after, has.before));
+  one_queue_more = λ old new one two same. absurd (omega (arith, one, two, same.count));
 }

@@ -5,6 +5,9 @@ use Rattle.base_words.specs.Assembly.{Assembly}
 use Rattle.base_words.specs.Journal.{Journal}
 use Rattle.text_journal.specs.Handed.{Handed, nothing_handed}
 use Rattle.judge_view.specs.Rows.{first_poll}
+use Rattle.note_stats.specs.Walks.{HasReadSome, SumsView}
+use Rattle.fairview_lag.specs.PairWalks.{IsSame}
+use Rattle.fairview_lag.specs.declared.core_lags.CoreLags.{CoreLags}
 use Rattle.fairview_report.specs.PollTexts.{HasRows, head_text}
 use Rattle.fairview_report.specs.Walks.{AreTold, TellsAll}
 use Rattle.fairview_report.specs.declared.poll.PollRows.{PollRows}
@@ -43,3 +46,7 @@ pub record BadWalksAreRefused : Type 0 where
   pub forgotten : (rows : PollRows) → string_bytes rows.page ≡ head_text → HasRows rows (record { cores = 1; cap = 4; burst = 1; earlier = first_poll ∷ []; notes = [] }) → ⊥
   -- the outside actor has no rows, whatever its notes are
   pub outside : (rows : PollRows) → length (string_bytes rows.page) ≡ length head_text + 1 → HasRows rows (polled ([] ∷ [])) → ⊥
+  -- a read of no notes doesn't stop among them
+  pub read_of_none : (journal : Journal ℕ) (old new : SumsView) → HasReadSome 3 3 journal old new → ⊥
+  -- lags of one queue more aren't the same
+  pub one_queue_more : (old new : CoreLags) → old.count ≡ 1 → new.count ≡ 2 → IsSame old new → ⊥
