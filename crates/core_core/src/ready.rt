@@ -53,6 +53,7 @@ pub(crate) fn enter_placed<J: Drop, A: Allocator + Clone>(
 
 /// Puts the slip of a queue into the timeline at this virtual runtime if a job waits in the queue, else back to the queue. The head of
 /// the queue has had its turn.
+#[inline(always)]
 pub(crate) fn relist<J: Drop, A: Allocator + Clone>(
     queues: &mut Queues<J, A>,
     ready: &mut Timeline<A>,

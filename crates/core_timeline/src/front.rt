@@ -100,8 +100,18 @@ impl<A: Allocator> Front<A> {
         self.places.is_before(self.places.end - 1, vr, queue)
     }
 
+    /// Whether the place of this key is behind all others.
+    #[inline(always)]
+    #[tactic(auto, using(crate::proofs::Leading::inserted_last))]
+    fn goes_last(&self, vr: u128, queue: QueueNo) -> bool
+        requires { IsRising self.now }
+        ensures { result ≡ true → inserted (record { vr = vr; queue = queue }) self.now ≡ self.now ++ (record { vr = vr; queue = queue }) ∷ [] }
+    {
+        self.is_empty() || self.stands_before(vr, queue)
+    }
+
     /// Puts a node behind all others.
-    #[inline]
+    #[inline(always)]
     pub(crate) fn push(&mut self, node: Box<Node<A>, A>, vr: u128)
         requires loose { IsLoose node.value }
         requires room { length self.old < 32 }
@@ -110,15 +120,19 @@ impl<A: Allocator> Front<A> {
         self.places.push(node, vr);
     }
 
-    /// Puts a node in the place of its key.
-    #[inline]
+    /// Puts a node in the place of its key. A queue that ran goes behind all others most often, so that way stands inline.
+    #[inline(always)]
     pub(crate) fn insert(&mut self, node: Box<Node<A>, A>, vr: u128)
         requires loose { IsLoose node.value }
         requires rising { IsRising self.old }
         requires room { length self.old < 32 }
         ensures { self.new ≡ inserted (key_of vr node.value) self.old }
     {
-        self.places.insert(node, vr);
+        if self.goes_last(vr, node.queue) {
+            self.push(node, vr);
+        } else {
+            self.places.insert(node, vr);
+        }
     }
 
     /// Takes the first node out. Its virtual runtime is written to `vr`.

@@ -78,6 +78,7 @@ impl<A: Allocator> Timeline<A> {
     }
 
     /// Puts the slip's queue into the timeline at this virtual runtime.
+    #[inline(always)]
     pub fn insert(&mut self, slip: Slip<A>, vr: u128)
         requires absent { LacksQueue slip self.old.keys }
         ensures keys { self.new.keys ≡ inserted (record { vr = vr; queue = slip }) self.old.keys }

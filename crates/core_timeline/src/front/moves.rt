@@ -11,7 +11,7 @@ use std::alloc::Allocator;
 
 impl<A: Allocator> Places<A> {
     /// Puts a node behind all others.
-    #[inline]
+    #[inline(always)]
     pub(super) fn push(&mut self, node: Box<Node<A>, A>, vr: u128)
         requires front { IsFront self.old.vrs.items self.old.nodes.items self.old.begin self.old.end }
         requires loose { IsLoose node.value }
@@ -25,7 +25,7 @@ impl<A: Allocator> Places<A> {
     }
 
     /// Puts a node in the place of its key.
-    #[inline]
+    #[inline(never)]
     pub(super) fn insert(&mut self, node: Box<Node<A>, A>, vr: u128)
         requires front { IsFront self.old.vrs.items self.old.nodes.items self.old.begin self.old.end }
         requires loose { IsLoose node.value }

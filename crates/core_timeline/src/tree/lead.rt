@@ -78,6 +78,7 @@ fn enter_front<A: Allocator>(
 }
 
 /// Puts a node into the tree, if its key stands behind all of the front, and else into the front, whose last node gives way if it is full.
+#[inline(never)]
 fn enter_either<A: Allocator>(
     first: &mut Front<A>,
     later: &mut Tree<A>,
