@@ -1,2 +1,3 @@
 mod Lines
 mod Rows
+mod Steps

@@ -127,36 +127,40 @@ Perfetto (ui.perfetto.dev) and chrome://tracing open the trace: a process for ea
 and arrows that follow each submission.";
 
 /// The commands and arguments of the program, with their help.
-#[tactic(auto, unfolding(crate::specs::CommandLine::our_app, crate::specs::CommandLine::trace_app))]
 pub fn command<'a>(alloc: Global) -> Result<Command<'a>, AllocError>
     ensures app { IfOk result (λ command. app_of command ≡ spec.our_app) }
     ensures whole { IfOk result (λ command. is_broken command ≡ false) }
 {
-    with_command(with_pictures(alloc)?, trace_command(alloc)?)
+    let pictures = with_pictures(alloc)?;
+    let trace = trace_command(alloc)?;
+    with_command(pictures, trace)
 }
 
 /// The program with the commands that print text, and those that draw.
-#[tactic(auto, unfolding(crate::specs::CommandLine::with_pictures, crate::specs::CommandLine::gantt_app, crate::specs::CommandLine::lag_app))]
 fn with_pictures<'a>(alloc: Global) -> Result<Command<'a>, AllocError>
     ensures app { IfOk result (λ command. app_of command ≡ spec.with_pictures) }
     ensures whole { IfOk result (λ command. is_broken command ≡ false) }
 {
-    let with_gantt = with_command(with_rows(alloc)?, gantt_command(alloc)?)?;
-    with_command(with_gantt, lag_command(alloc)?)
+    let rows = with_rows(alloc)?;
+    let gantt = gantt_command(alloc)?;
+    let with_gantt = with_command(rows, gantt)?;
+    let lag = lag_command(alloc)?;
+    with_command(with_gantt, lag)
 }
 
 /// The program with the commands that print text.
-#[tactic(auto, unfolding(crate::specs::CommandLine::with_rows, crate::specs::CommandLine::why_app, crate::specs::CommandLine::csv_app))]
 fn with_rows<'a>(alloc: Global) -> Result<Command<'a>, AllocError>
     ensures app { IfOk result (λ command. app_of command ≡ spec.with_rows) }
     ensures whole { IfOk result (λ command. is_broken command ≡ false) }
 {
-    let with_why = with_command(with_tables(alloc)?, why_command(alloc)?)?;
-    with_command(with_why, csv_command(alloc)?)
+    let tables = with_tables(alloc)?;
+    let why = why_command(alloc)?;
+    let with_why = with_command(tables, why)?;
+    let csv = csv_command(alloc)?;
+    with_command(with_why, csv)
 }
 
 /// The program with the two commands that print tables.
-#[tactic(auto, unfolding(crate::specs::CommandLine::with_tables, crate::specs::CommandLine::wait_app, crate::specs::CommandLine::share_app))]
 fn with_tables<'a>(alloc: Global) -> Result<Command<'a>, AllocError>
     ensures app { IfOk result (λ command. app_of command ≡ spec.with_tables) }
     ensures whole { IfOk result (λ command. is_broken command ≡ false) }
@@ -167,12 +171,13 @@ fn with_tables<'a>(alloc: Global) -> Result<Command<'a>, AllocError>
         "Shows what the journals of a run tell, as text, as a picture and as a trace",
         AFTER_HELP,
     )?;
-    let with_wait = with_command(program, wait_command(alloc)?)?;
-    with_command(with_wait, share_command(alloc)?)
+    let wait = wait_command(alloc)?;
+    let with_wait = with_command(program, wait)?;
+    let share = share_command(alloc)?;
+    with_command(with_wait, share)
 }
 
 /// `wait [--plain] [--bytes] [FILE]`
-#[tactic(auto, unfolding(crate::specs::CommandLine::wait_app))]
 fn wait_command<'a>(alloc: Global) -> Result<Command<'a>, AllocError>
     ensures app { IfOk result (λ command. app_of command ≡ spec.wait_app) }
     ensures whole { IfOk result (λ command. is_broken command ≡ false) }
@@ -189,7 +194,6 @@ fn wait_command<'a>(alloc: Global) -> Result<Command<'a>, AllocError>
 }
 
 /// `share [--plain] [--csv] [--bytes] [FILE]`
-#[tactic(auto, unfolding(crate::specs::CommandLine::share_app))]
 fn share_command<'a>(alloc: Global) -> Result<Command<'a>, AllocError>
     ensures app { IfOk result (λ command. app_of command ≡ spec.share_app) }
     ensures whole { IfOk result (λ command. is_broken command ≡ false) }
@@ -207,7 +211,6 @@ fn share_command<'a>(alloc: Global) -> Result<Command<'a>, AllocError>
 }
 
 /// `why [--bytes] NAME [FILE]`
-#[tactic(auto, unfolding(crate::specs::CommandLine::why_app))]
 fn why_command<'a>(alloc: Global) -> Result<Command<'a>, AllocError>
     ensures app { IfOk result (λ command. app_of command ≡ spec.why_app) }
     ensures whole { IfOk result (λ command. is_broken command ≡ false) }
@@ -229,7 +232,6 @@ fn why_command<'a>(alloc: Global) -> Result<Command<'a>, AllocError>
 }
 
 /// `csv [--bytes] [FILE]`
-#[tactic(auto, unfolding(crate::specs::CommandLine::csv_app))]
 fn csv_command<'a>(alloc: Global) -> Result<Command<'a>, AllocError>
     ensures app { IfOk result (λ command. app_of command ≡ spec.csv_app) }
     ensures whole { IfOk result (λ command. is_broken command ≡ false) }
@@ -245,7 +247,6 @@ fn csv_command<'a>(alloc: Global) -> Result<Command<'a>, AllocError>
 }
 
 /// `gantt [--core D] [--from N] [--to N] [--bytes] [FILE]`
-#[tactic(auto, unfolding(crate::specs::CommandLine::gantt_app))]
 fn gantt_command<'a>(alloc: Global) -> Result<Command<'a>, AllocError>
     ensures app { IfOk result (λ command. app_of command ≡ spec.gantt_app) }
     ensures whole { IfOk result (λ command. is_broken command ≡ false) }
@@ -270,7 +271,6 @@ fn gantt_command<'a>(alloc: Global) -> Result<Command<'a>, AllocError>
 }
 
 /// `lag [--text] [--bytes] [FILE]`
-#[tactic(auto, unfolding(crate::specs::CommandLine::lag_app))]
 fn lag_command<'a>(alloc: Global) -> Result<Command<'a>, AllocError>
     ensures app { IfOk result (λ command. app_of command ≡ spec.lag_app) }
     ensures whole { IfOk result (λ command. is_broken command ≡ false) }
@@ -292,7 +292,6 @@ fn lag_command<'a>(alloc: Global) -> Result<Command<'a>, AllocError>
 }
 
 /// `trace [--bytes] [FILE]`
-#[tactic(auto, unfolding(crate::specs::CommandLine::trace_app))]
 fn trace_command<'a>(alloc: Global) -> Result<Command<'a>, AllocError>
     ensures app { IfOk result (λ command. app_of command ≡ spec.trace_app) }
     ensures whole { IfOk result (λ command. is_broken command ≡ false) }
