@@ -8,3 +8,5 @@ pub mod HouseReads
 pub mod HousesRefused
 pub mod WholeLemmas
 pub mod Fronts
+pub mod Tags
+pub mod Puts

@@ -1,6 +1,9 @@
 //! Reads the fields of a note as bytes.
 
-ghost use Rattle.std.specs.Prelude.{◌≡◌};
+ghost use Rattle.std.specs.Prelude.{◌≡◌, ◌∷◌};
+ghost use Rattle.base_words.specs.declared.note.OutcomeNote.TheVariants as outcome;
+ghost use Rattle.base_words.specs.declared.order.Answer.TheVariants as answer;
+ghost use Rattle.base_words.specs.declared.order.Order.TheVariants as order;
 ghost use Rattle.text_parts.specs.ByteNotes as spec;
 
 use base_words::{
@@ -49,7 +52,9 @@ pub(crate) fn short_at(bytes: &[u8]) -> Option<(u16, &[u8])>
 pub(crate) fn weight_at(bytes: &[u8]) -> Option<(Shares, &[u8])>
     ensures { spec.Gives (λ x. (x.0, x.1.now)) result (spec.weight_at bytes.now) }
 {
-    let (weight, rest) = short_at(bytes)?;
+    let Some((weight, rest)) = short_at(bytes) else {
+        return None;
+    };
     if weight < 1 {
         return None;
     }
@@ -67,8 +72,12 @@ pub(crate) fn weight_at(bytes: &[u8]) -> Option<(Shares, &[u8])>
 pub(crate) fn runtime_at(bytes: &[u8]) -> Option<(u128, &[u8])>
     ensures { spec.Gives (λ x. (x.0, x.1.now)) result (spec.runtime_at bytes.now) }
 {
-    let (low, rest) = wide_at(bytes)?;
-    let (high, rest) = wide_at(rest)?;
+    let Some((low, rest)) = wide_at(bytes) else {
+        return None;
+    };
+    let Some((high, rest)) = wide_at(rest) else {
+        return None;
+    };
     Some((u128::from(high) * (1 << 64) + u128::from(low), rest))
 }
 
@@ -77,9 +86,15 @@ pub(crate) fn runtime_at(bytes: &[u8]) -> Option<(u128, &[u8])>
 pub(crate) fn name_at(bytes: &[u8]) -> Option<(JobId, &[u8])>
     ensures { spec.Gives (λ x. (x.0, x.1.now)) result (spec.name_at bytes.now) }
 {
-    let (from, rest) = byte_at(bytes)?;
-    let (to, rest) = byte_at(rest)?;
-    let (number, rest) = wide_at(rest)?;
+    let Some((from, rest)) = byte_at(bytes) else {
+        return None;
+    };
+    let Some((to, rest)) = byte_at(rest) else {
+        return None;
+    };
+    let Some((number, rest)) = wide_at(rest) else {
+        return None;
+    };
     let name = JobId {
         from: ActorNo(from),
         to: CoreNo(to),
@@ -105,12 +120,22 @@ pub(crate) fn mode_at(bytes: &[u8]) -> Option<(Mode, &[u8])>
 pub(crate) fn reason_at(bytes: &[u8]) -> Option<(Reason, &[u8])>
     ensures { spec.Gives (λ x. (x.0, x.1.now)) result (spec.reason_at bytes.now) }
 {
-    match bytes {
-        [0, rest @ ..] => Some((Reason::NoQueue, rest)),
-        [1, rest @ ..] => Some((Reason::QueueClosed, rest)),
-        [2, rest @ ..] => Some((Reason::CoreClosing, rest)),
-        [3, rest @ ..] => Some((Reason::QueueReturned, rest)),
-        [4, rest @ ..] => Some((Reason::CoreReturned, rest)),
+    match byte_at(bytes) {
+        Some((kind, rest)) => reason_of(kind, rest),
+        None => None,
+    }
+}
+
+/// A reason of this kind, behind the byte that tells the kind.
+fn reason_of(kind: u8, bytes: &[u8]) -> Option<(Reason, &[u8])>
+    ensures { spec.Gives (λ x. (x.0, x.1.now)) result (spec.tagged spec.reasons (kind ∷ bytes.now)) }
+{
+    match kind {
+        0 => Some((Reason::NoQueue, bytes)),
+        1 => Some((Reason::QueueClosed, bytes)),
+        2 => Some((Reason::CoreClosing, bytes)),
+        3 => Some((Reason::QueueReturned, bytes)),
+        4 => Some((Reason::CoreReturned, bytes)),
         _ => None,
     }
 }
@@ -120,22 +145,38 @@ pub(crate) fn reason_at(bytes: &[u8]) -> Option<(Reason, &[u8])>
 pub(crate) fn answer_at(bytes: &[u8]) -> Option<(Answer, &[u8])>
     ensures { spec.Gives (λ x. (x.0, x.1.now)) result (spec.answer_at bytes.now) }
 {
-    match bytes {
-        [0, rest @ ..] => {
-            let (queue, rest) = byte_at(rest)?;
-            Some((Answer::Created(QueueNo(queue)), rest))
-        }
-        [1, rest @ ..] => Some((Answer::TooMany, rest)),
-        [2, rest @ ..] => Some((Answer::NoMemory, rest)),
-        [3, rest @ ..] => Some((Answer::CoreClosing, rest)),
-        [4, rest @ ..] => Some((Answer::SharesSet, rest)),
-        [5, rest @ ..] => Some((Answer::NoQueue, rest)),
-        [6, rest @ ..] => Some((Answer::Closed, rest)),
-        [7, rest @ ..] => Some((Answer::AlreadyClosed, rest)),
-        [8, rest @ ..] => Some((Answer::Woken, rest)),
-        [9, rest @ ..] => Some((Answer::NoJob, rest)),
+    match byte_at(bytes) {
+        Some((kind, rest)) => answer_of(kind, rest),
+        None => None,
+    }
+}
+
+/// An answer of this kind, behind the byte that tells the kind.
+fn answer_of(kind: u8, bytes: &[u8]) -> Option<(Answer, &[u8])>
+    ensures { spec.Gives (λ x. (x.0, x.1.now)) result (spec.tagged spec.answers (kind ∷ bytes.now)) }
+{
+    match kind {
+        0 => created_at(bytes),
+        1 => Some((Answer::TooMany, bytes)),
+        2 => Some((Answer::NoMemory, bytes)),
+        3 => Some((Answer::CoreClosing, bytes)),
+        4 => Some((Answer::SharesSet, bytes)),
+        5 => Some((Answer::NoQueue, bytes)),
+        6 => Some((Answer::Closed, bytes)),
+        7 => Some((Answer::AlreadyClosed, bytes)),
+        8 => Some((Answer::Woken, bytes)),
+        9 => Some((Answer::NoJob, bytes)),
         _ => None,
     }
+}
+
+fn created_at(bytes: &[u8]) -> Option<(Answer, &[u8])>
+    ensures { spec.Gives (λ x. (x.0, x.1.now)) result (spec.one answer.Created spec.byte_at bytes.now) }
+{
+    let Some((queue, rest)) = byte_at(bytes) else {
+        return None;
+    };
+    Some((Answer::Created(QueueNo(queue)), rest))
 }
 
 /// An order, without its job.
@@ -143,40 +184,88 @@ pub(crate) fn answer_at(bytes: &[u8]) -> Option<(Answer, &[u8])>
 pub(crate) fn order_at(bytes: &[u8]) -> Option<(Order<()>, &[u8])>
     ensures { spec.Gives (λ x. (x.0, x.1.now)) result (spec.order_at bytes.now) }
 {
-    match bytes {
-        [0, rest @ ..] => {
-            let (queue, rest) = byte_at(rest)?;
-            Some((Order::Job(QueueNo(queue), ()), rest))
-        }
-        [1, rest @ ..] => {
-            let Some((weight, rest)) = weight_at(rest) else {
-                return None;
-            };
-            Some((Order::Create(weight), rest))
-        }
-        [2, rest @ ..] => {
-            let (queue, rest) = byte_at(rest)?;
-            let Some((weight, rest)) = weight_at(rest) else {
-                return None;
-            };
-            Some((Order::SetShares(QueueNo(queue), weight), rest))
-        }
-        [3, rest @ ..] => {
-            let (queue, rest) = byte_at(rest)?;
-            let (mode, rest) = mode_at(rest)?;
-            Some((Order::Close(QueueNo(queue), mode), rest))
-        }
-        [4, rest @ ..] => {
-            let (mode, rest) = mode_at(rest)?;
-            Some((Order::CloseCore(mode), rest))
-        }
-        [5, rest @ ..] => {
-            let (actor, rest) = byte_at(rest)?;
-            let (number, rest) = wide_at(rest)?;
-            Some((Order::Wake(ActorNo(actor), number), rest))
-        }
+    match byte_at(bytes) {
+        Some((kind, rest)) => order_of(kind, rest),
+        None => None,
+    }
+}
+
+/// An order of this kind, behind the byte that tells the kind.
+fn order_of(kind: u8, bytes: &[u8]) -> Option<(Order<()>, &[u8])>
+    ensures { spec.Gives (λ x. (x.0, x.1.now)) result (spec.tagged spec.orders (kind ∷ bytes.now)) }
+{
+    match kind {
+        0 => job_at(bytes),
+        1 => create_at(bytes),
+        2 => set_shares_at(bytes),
+        3 => close_at(bytes),
+        4 => close_core_at(bytes),
+        5 => wake_at(bytes),
         _ => None,
     }
+}
+
+fn job_at(bytes: &[u8]) -> Option<(Order<()>, &[u8])>
+    ensures { spec.Gives (λ x. (x.0, x.1.now)) result (spec.one (λ queue. order.Job queue tt) spec.byte_at bytes.now) }
+{
+    let Some((queue, rest)) = byte_at(bytes) else {
+        return None;
+    };
+    Some((Order::Job(QueueNo(queue), ()), rest))
+}
+
+fn create_at(bytes: &[u8]) -> Option<(Order<()>, &[u8])>
+    ensures { spec.Gives (λ x. (x.0, x.1.now)) result (spec.one order.Create spec.weight_at bytes.now) }
+{
+    let Some((weight, rest)) = weight_at(bytes) else {
+        return None;
+    };
+    Some((Order::Create(weight), rest))
+}
+
+fn set_shares_at(bytes: &[u8]) -> Option<(Order<()>, &[u8])>
+    ensures { spec.Gives (λ x. (x.0, x.1.now)) result (spec.both order.SetShares spec.byte_at spec.weight_at bytes.now) }
+{
+    let Some((queue, rest)) = byte_at(bytes) else {
+        return None;
+    };
+    let Some((weight, rest)) = weight_at(rest) else {
+        return None;
+    };
+    Some((Order::SetShares(QueueNo(queue), weight), rest))
+}
+
+fn close_at(bytes: &[u8]) -> Option<(Order<()>, &[u8])>
+    ensures { spec.Gives (λ x. (x.0, x.1.now)) result (spec.both order.Close spec.byte_at spec.mode_at bytes.now) }
+{
+    let Some((queue, rest)) = byte_at(bytes) else {
+        return None;
+    };
+    let Some((mode, rest)) = mode_at(rest) else {
+        return None;
+    };
+    Some((Order::Close(QueueNo(queue), mode), rest))
+}
+
+fn close_core_at(bytes: &[u8]) -> Option<(Order<()>, &[u8])>
+    ensures { spec.Gives (λ x. (x.0, x.1.now)) result (spec.one order.CloseCore spec.mode_at bytes.now) }
+{
+    let Some((mode, rest)) = mode_at(bytes) else {
+        return None;
+    };
+    Some((Order::CloseCore(mode), rest))
+}
+
+fn wake_at(bytes: &[u8]) -> Option<(Order<()>, &[u8])>
+    ensures { spec.Gives (λ x. (x.0, x.1.now)) result (spec.both order.Wake spec.byte_at spec.wide_at bytes.now) }
+{
+    let Some((actor, rest)) = byte_at(bytes) else {
+        return None;
+    };
+    let Some((number, rest)) = wide_at(rest) else {
+        return None;
+    };
+    Some((Order::Wake(ActorNo(actor), number), rest))
 }
 
 /// What became of a submission.
@@ -184,21 +273,47 @@ pub(crate) fn order_at(bytes: &[u8]) -> Option<(Order<()>, &[u8])>
 pub(crate) fn outcome_at(bytes: &[u8]) -> Option<(OutcomeNote<u64>, &[u8])>
     ensures { spec.Gives (λ x. (x.0, x.1.now)) result (spec.outcome_at bytes.now) }
 {
-    match bytes {
-        [0, rest @ ..] => {
-            let (value, rest) = wide_at(rest)?;
-            Some((OutcomeNote::Finished(value), rest))
-        }
-        [1, rest @ ..] => {
-            let (reason, rest) = reason_at(rest)?;
-            Some((OutcomeNote::Returned(reason), rest))
-        }
-        [2, rest @ ..] => {
-            let Some((answer, rest)) = answer_at(rest) else {
-                return None;
-            };
-            Some((OutcomeNote::Answered(answer), rest))
-        }
+    match byte_at(bytes) {
+        Some((kind, rest)) => outcome_of(kind, rest),
+        None => None,
+    }
+}
+
+/// An outcome of this kind, behind the byte that tells the kind.
+fn outcome_of(kind: u8, bytes: &[u8]) -> Option<(OutcomeNote<u64>, &[u8])>
+    ensures { spec.Gives (λ x. (x.0, x.1.now)) result (spec.tagged spec.outcomes (kind ∷ bytes.now)) }
+{
+    match kind {
+        0 => finished_at(bytes),
+        1 => returned_at(bytes),
+        2 => answered_at(bytes),
         _ => None,
     }
+}
+
+fn finished_at(bytes: &[u8]) -> Option<(OutcomeNote<u64>, &[u8])>
+    ensures { spec.Gives (λ x. (x.0, x.1.now)) result (spec.one outcome.Finished spec.wide_at bytes.now) }
+{
+    let Some((value, rest)) = wide_at(bytes) else {
+        return None;
+    };
+    Some((OutcomeNote::Finished(value), rest))
+}
+
+fn returned_at(bytes: &[u8]) -> Option<(OutcomeNote<u64>, &[u8])>
+    ensures { spec.Gives (λ x. (x.0, x.1.now)) result (spec.one outcome.Returned spec.reason_at bytes.now) }
+{
+    let Some((reason, rest)) = reason_at(bytes) else {
+        return None;
+    };
+    Some((OutcomeNote::Returned(reason), rest))
+}
+
+fn answered_at(bytes: &[u8]) -> Option<(OutcomeNote<u64>, &[u8])>
+    ensures { spec.Gives (λ x. (x.0, x.1.now)) result (spec.one outcome.Answered spec.answer_at bytes.now) }
+{
+    let Some((answer, rest)) = answer_at(bytes) else {
+        return None;
+    };
+    Some((OutcomeNote::Answered(answer), rest))
 }

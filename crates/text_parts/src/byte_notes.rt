@@ -1,6 +1,6 @@
 //! Reads the note at the front of some bytes.
 
-ghost use Rattle.std.specs.Prelude.{◌≡◌};
+ghost use Rattle.std.specs.Prelude.{◌≡◌, ◌∷◌};
 ghost use Rattle.base_words.specs.declared.note.Note.TheVariants as note;
 ghost use Rattle.text_parts.specs.ByteNotes as spec;
 
@@ -15,29 +15,39 @@ use base_words::{ActorNo, Note, QueueNo};
 pub fn note_at(bytes: &[u8]) -> Option<(Note<u64>, &[u8])>
     ensures { spec.Gives (λ x. (x.0, x.1.now)) result (spec.note_at bytes.now) }
 {
-    match bytes {
-        [0, rest @ ..] => sent_at(rest),
-        [1, rest @ ..] => took_at(rest),
-        [2, rest @ ..] => back_at(rest),
-        [3, rest @ ..] => answered_at(rest),
-        [4, rest @ ..] => created_at(rest),
-        [5, rest @ ..] => shares_set_at(rest),
-        [6, rest @ ..] => queue_closed_at(rest),
-        [7, rest @ ..] => core_closed_at(rest),
-        [8, rest @ ..] => woken_at(rest),
-        [9, rest @ ..] => pick_at(rest),
-        [10, rest @ ..] => start_at(rest),
-        [11, rest @ ..] => resume_at(rest),
-        [12, rest @ ..] => yield_at(rest),
-        [13, rest @ ..] => park_at(rest),
-        [14, rest @ ..] => stayed_at(rest),
-        [15, rest @ ..] => done_at(rest),
-        [16, rest @ ..] => returned_at(rest),
-        [17, rest @ ..] => turned_at(rest),
-        [18, rest @ ..] => shut_at(rest),
-        [19, rest @ ..] => collected_at(rest),
-        [20, rest @ ..] => redeemed_at(rest),
-        [21, rest @ ..] => detached_at(rest),
+    match byte_at(bytes) {
+        Some((kind, rest)) => kind_at(kind, rest),
+        None => None,
+    }
+}
+
+/// A note of this kind, behind the byte that tells the kind.
+fn kind_at(kind: u8, bytes: &[u8]) -> Option<(Note<u64>, &[u8])>
+    ensures { spec.Gives (λ x. (x.0, x.1.now)) result (spec.tagged spec.notes (kind ∷ bytes.now)) }
+{
+    match kind {
+        0 => sent_at(bytes),
+        1 => took_at(bytes),
+        2 => back_at(bytes),
+        3 => answered_at(bytes),
+        4 => created_at(bytes),
+        5 => shares_set_at(bytes),
+        6 => queue_closed_at(bytes),
+        7 => core_closed_at(bytes),
+        8 => woken_at(bytes),
+        9 => pick_at(bytes),
+        10 => start_at(bytes),
+        11 => resume_at(bytes),
+        12 => yield_at(bytes),
+        13 => park_at(bytes),
+        14 => stayed_at(bytes),
+        15 => done_at(bytes),
+        16 => returned_at(bytes),
+        17 => turned_at(bytes),
+        18 => shut_at(bytes),
+        19 => collected_at(bytes),
+        20 => redeemed_at(bytes),
+        21 => detached_at(bytes),
         _ => None,
     }
 }
@@ -60,7 +70,9 @@ fn took_at(bytes: &[u8]) -> Option<(Note<u64>, &[u8])>
     let Some((name, rest)) = name_at(bytes) else {
         return None;
     };
-    let (queue, rest) = byte_at(rest)?;
+    let Some((queue, rest)) = byte_at(rest) else {
+        return None;
+    };
     Some((Note::Took(name, QueueNo(queue)), rest))
 }
 
@@ -70,7 +82,9 @@ fn back_at(bytes: &[u8]) -> Option<(Note<u64>, &[u8])>
     let Some((name, rest)) = name_at(bytes) else {
         return None;
     };
-    let (reason, rest) = reason_at(rest)?;
+    let Some((reason, rest)) = reason_at(rest) else {
+        return None;
+    };
     Some((Note::Back(name, reason), rest))
 }
 
@@ -89,7 +103,9 @@ fn answered_at(bytes: &[u8]) -> Option<(Note<u64>, &[u8])>
 fn created_at(bytes: &[u8]) -> Option<(Note<u64>, &[u8])>
     ensures { spec.Gives (λ x. (x.0, x.1.now)) result (spec.both note.Created spec.byte_at spec.weight_at bytes.now) }
 {
-    let (queue, rest) = byte_at(bytes)?;
+    let Some((queue, rest)) = byte_at(bytes) else {
+        return None;
+    };
     let Some((weight, rest)) = weight_at(rest) else {
         return None;
     };
@@ -99,7 +115,9 @@ fn created_at(bytes: &[u8]) -> Option<(Note<u64>, &[u8])>
 fn shares_set_at(bytes: &[u8]) -> Option<(Note<u64>, &[u8])>
     ensures { spec.Gives (λ x. (x.0, x.1.now)) result (spec.both note.SharesSet spec.byte_at spec.weight_at bytes.now) }
 {
-    let (queue, rest) = byte_at(bytes)?;
+    let Some((queue, rest)) = byte_at(bytes) else {
+        return None;
+    };
     let Some((weight, rest)) = weight_at(rest) else {
         return None;
     };
@@ -109,15 +127,21 @@ fn shares_set_at(bytes: &[u8]) -> Option<(Note<u64>, &[u8])>
 fn queue_closed_at(bytes: &[u8]) -> Option<(Note<u64>, &[u8])>
     ensures { spec.Gives (λ x. (x.0, x.1.now)) result (spec.both note.QueueClosed spec.byte_at spec.mode_at bytes.now) }
 {
-    let (queue, rest) = byte_at(bytes)?;
-    let (mode, rest) = mode_at(rest)?;
+    let Some((queue, rest)) = byte_at(bytes) else {
+        return None;
+    };
+    let Some((mode, rest)) = mode_at(rest) else {
+        return None;
+    };
     Some((Note::QueueClosed(QueueNo(queue), mode), rest))
 }
 
 fn core_closed_at(bytes: &[u8]) -> Option<(Note<u64>, &[u8])>
     ensures { spec.Gives (λ x. (x.0, x.1.now)) result (spec.one note.CoreClosed spec.mode_at bytes.now) }
 {
-    let (mode, rest) = mode_at(bytes)?;
+    let Some((mode, rest)) = mode_at(bytes) else {
+        return None;
+    };
     Some((Note::CoreClosed(mode), rest))
 }
 
@@ -133,8 +157,12 @@ fn woken_at(bytes: &[u8]) -> Option<(Note<u64>, &[u8])>
 fn pick_at(bytes: &[u8]) -> Option<(Note<u64>, &[u8])>
     ensures { spec.Gives (λ x. (x.0, x.1.now)) result (spec.both note.Pick spec.byte_at spec.runtime_at bytes.now) }
 {
-    let (queue, rest) = byte_at(bytes)?;
-    let (runtime, rest) = runtime_at(rest)?;
+    let Some((queue, rest)) = byte_at(bytes) else {
+        return None;
+    };
+    let Some((runtime, rest)) = runtime_at(rest) else {
+        return None;
+    };
     Some((Note::Pick(QueueNo(queue), runtime), rest))
 }
 
@@ -162,7 +190,9 @@ fn yield_at(bytes: &[u8]) -> Option<(Note<u64>, &[u8])>
     let Some((name, rest)) = name_at(bytes) else {
         return None;
     };
-    let (time, rest) = wide_at(rest)?;
+    let Some((time, rest)) = wide_at(rest) else {
+        return None;
+    };
     Some((Note::Yield(name, time), rest))
 }
 
@@ -172,7 +202,9 @@ fn park_at(bytes: &[u8]) -> Option<(Note<u64>, &[u8])>
     let Some((name, rest)) = name_at(bytes) else {
         return None;
     };
-    let (time, rest) = wide_at(rest)?;
+    let Some((time, rest)) = wide_at(rest) else {
+        return None;
+    };
     Some((Note::Park(name, time), rest))
 }
 
@@ -182,7 +214,9 @@ fn stayed_at(bytes: &[u8]) -> Option<(Note<u64>, &[u8])>
     let Some((name, rest)) = name_at(bytes) else {
         return None;
     };
-    let (time, rest) = wide_at(rest)?;
+    let Some((time, rest)) = wide_at(rest) else {
+        return None;
+    };
     Some((Note::Stayed(name, time), rest))
 }
 
@@ -192,8 +226,12 @@ fn done_at(bytes: &[u8]) -> Option<(Note<u64>, &[u8])>
     let Some((name, rest)) = name_at(bytes) else {
         return None;
     };
-    let (time, rest) = wide_at(rest)?;
-    let (value, rest) = wide_at(rest)?;
+    let Some((time, rest)) = wide_at(rest) else {
+        return None;
+    };
+    let Some((value, rest)) = wide_at(rest) else {
+        return None;
+    };
     Some((Note::Done(name, time, value), rest))
 }
 
@@ -203,23 +241,33 @@ fn returned_at(bytes: &[u8]) -> Option<(Note<u64>, &[u8])>
     let Some((name, rest)) = name_at(bytes) else {
         return None;
     };
-    let (reason, rest) = reason_at(rest)?;
+    let Some((reason, rest)) = reason_at(rest) else {
+        return None;
+    };
     Some((Note::Returned(name, reason), rest))
 }
 
 fn turned_at(bytes: &[u8]) -> Option<(Note<u64>, &[u8])>
     ensures { spec.Gives (λ x. (x.0, x.1.now)) result (spec.both note.Turned spec.byte_at spec.wide_at bytes.now) }
 {
-    let (queue, rest) = byte_at(bytes)?;
-    let (time, rest) = wide_at(rest)?;
+    let Some((queue, rest)) = byte_at(bytes) else {
+        return None;
+    };
+    let Some((time, rest)) = wide_at(rest) else {
+        return None;
+    };
     Some((Note::Turned(QueueNo(queue), time), rest))
 }
 
 fn shut_at(bytes: &[u8]) -> Option<(Note<u64>, &[u8])>
     ensures { spec.Gives (λ x. (x.0, x.1.now)) result (spec.both note.Shut spec.byte_at spec.wide_at bytes.now) }
 {
-    let (sender, rest) = byte_at(bytes)?;
-    let (count, rest) = wide_at(rest)?;
+    let Some((sender, rest)) = byte_at(bytes) else {
+        return None;
+    };
+    let Some((count, rest)) = wide_at(rest) else {
+        return None;
+    };
     Some((Note::Shut(ActorNo(sender), count), rest))
 }
 

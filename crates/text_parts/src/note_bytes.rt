@@ -7,7 +7,7 @@ ghost use Rattle.text_parts.specs.NoteBytes as spec;
 use base_words::{Answer, JobId, Mode, Note, Order, OutcomeNote, QueueNo, Reason, Shares};
 use std::alloc::AllocError;
 
-/// Puts a note behind the others. Where the vector has room for it, no memory is asked for.
+/// Puts a note behind the others. If the vector has room for it, no memory is asked for.
 ///
 /// # Errors
 ///

@@ -152,10 +152,18 @@ fn sums_behind(sums: (u64, u64), bytes: &[u8]) -> (u64, u64)
 fn head_at(bytes: &[u8]) -> Option<(Head, &[u8])>
     ensures { Gives (λ x. (x.0, x.1.now)) result (spec.head_at bytes.now) }
 {
-    let (actor, rest) = byte_at(bytes)?;
-    let (before, rest) = wide_at(rest)?;
-    let (count, rest) = wide_at(rest)?;
-    let (size, rest) = wide_at(rest)?;
+    let Some((actor, rest)) = byte_at(bytes) else {
+        return None;
+    };
+    let Some((before, rest)) = wide_at(rest) else {
+        return None;
+    };
+    let Some((count, rest)) = wide_at(rest) else {
+        return None;
+    };
+    let Some((size, rest)) = wide_at(rest) else {
+        return None;
+    };
     let head = Head {
         actor: ActorNo(actor),
         before,
@@ -165,7 +173,7 @@ fn head_at(bytes: &[u8]) -> Option<(Head, &[u8])>
     Some((head, rest))
 }
 
-/// So many notes, and the bytes behind them.
+/// The first `count` notes, and the bytes behind them.
 fn notes_at(alloc: Global, count: u64, bytes: &[u8]) -> Result<(Vec<Note<u64>>, &[u8]), PartError>
     ensures { spec.GivesPart (λ x. (x.0.items, x.1.now)) result (spec.or_notes (spec.notes_at count bytes.now)) }
 {
@@ -251,8 +259,12 @@ fn summed<'a>(
 fn sums_at(bytes: &[u8]) -> Option<((u64, u64), &[u8])>
     ensures { Gives (λ x. (x.0, x.1.now)) result (spec.sums_at bytes.now) }
 {
-    let (first, rest) = wide_at(bytes)?;
-    let (second, rest) = wide_at(rest)?;
+    let Some((first, rest)) = wide_at(bytes) else {
+        return None;
+    };
+    let Some((second, rest)) = wide_at(rest) else {
+        return None;
+    };
     Some(((first, second), rest))
 }
 

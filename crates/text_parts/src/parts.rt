@@ -127,9 +127,15 @@ fn house_at(bytes: &[u8]) -> Option<(HouseNumbers, &[u8])>
 fn numbers_at(bytes: &[u8]) -> Option<(HouseNumbers, &[u8])>
     ensures { Gives (λ x. (x.0, x.1.now)) result (spec.numbers_at bytes.now) }
 {
-    let (cores, rest) = byte_at(bytes)?;
-    let (burst, rest) = byte_at(rest)?;
-    let (cap, rest) = short_at(rest)?;
+    let Some((cores, rest)) = byte_at(bytes) else {
+        return None;
+    };
+    let Some((burst, rest)) = byte_at(rest) else {
+        return None;
+    };
+    let Some((cap, rest)) = short_at(rest) else {
+        return None;
+    };
     Some((HouseNumbers { cores, cap, burst }, rest))
 }
 
