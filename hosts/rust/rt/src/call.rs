@@ -1,6 +1,6 @@
 //! Calls from one core to another.
 
-use crate::local::{here, Sending};
+use crate::local::here;
 use crate::shared::{lock, Queue};
 use crate::task::start_now;
 use futures_lite::future::FutureExt;
@@ -8,6 +8,7 @@ use std::fmt;
 use std::future::{poll_fn, Future};
 use std::panic::AssertUnwindSafe;
 use std::pin::{pin, Pin};
+use std::sync::atomic::{AtomicBool, Ordering};
 use std::sync::{Arc, Mutex};
 use std::task::{Context, Poll, Waker};
 
@@ -52,22 +53,27 @@ impl From<CallError> for std::io::Error {
 }
 
 /// What both sides of a call share.
+struct Both<T> {
+    is_given_up: AtomicBool,
+    answer: Mutex<Answer<T>>,
+}
+
 struct Answer<T> {
     value: Option<Result<T, CallError>>,
     // Of who awaits the answer.
     caller: Option<Waker>,
-    // Of the task that makes it.
+    // Of the task that makes it, once that waits.
     callee: Option<Waker>,
-    is_given_up: bool,
 }
 
 /// The side of a call that tells its answer. One that is dropped tells that the call was.
-pub(crate) struct Slot<T>(Option<Arc<Mutex<Answer<T>>>>);
+pub(crate) struct Slot<T>(Option<Arc<Both<T>>>);
 
 impl<T> Slot<T> {
     pub(crate) fn new() -> (Slot<T>, Call<T>) {
-        let answer = Arc::new(Mutex::new(Answer { value: None, caller: None, callee: None, is_given_up: false }));
-        (Slot(Some(Arc::clone(&answer))), Call(answer))
+        let answer = Mutex::new(Answer { value: None, caller: None, callee: None });
+        let shared = Arc::new(Both { is_given_up: AtomicBool::new(false), answer });
+        (Slot(Some(Arc::clone(&shared))), Call(Some(shared)))
     }
 
     pub(crate) fn tell(mut self, value: Result<T, CallError>) {
@@ -75,9 +81,9 @@ impl<T> Slot<T> {
     }
 
     fn put(&mut self, value: Result<T, CallError>) {
-        let Some(answer) = self.0.take() else { return };
+        let Some(shared) = self.0.take() else { return };
         let (caller, _callee) = {
-            let mut answer = lock(&answer);
+            let mut answer = lock(&shared.answer);
             answer.value = Some(value);
             (answer.caller.take(), answer.callee.take())
         };
@@ -86,14 +92,20 @@ impl<T> Slot<T> {
         }
     }
 
-    /// Whether nobody wants the answer. Else the task of this context is woken when nobody does any more.
-    fn is_given_up(&self, cx: &Context<'_>) -> bool {
-        let Some(answer) = &self.0 else { return true };
-        let mut answer = lock(answer);
+    /// Whether nobody wants the answer.
+    fn is_given_up(&self) -> bool {
+        self.0.as_ref().map_or(true, |it| it.is_given_up.load(Ordering::Acquire))
+    }
+
+    /// The same for a task that waits. It is woken when nobody wants the answer any more.
+    fn is_given_up_or_wakes(&self, cx: &Context<'_>) -> bool {
+        let Some(shared) = &self.0 else { return true };
+        let mut answer = lock(&shared.answer);
         if !answer.callee.as_ref().is_some_and(|it| it.will_wake(cx.waker())) {
             answer.callee = Some(cx.waker().clone());
         }
-        answer.is_given_up
+        // It is set under the lock.
+        shared.is_given_up.load(Ordering::Relaxed)
     }
 }
 
@@ -123,26 +135,36 @@ impl<T> Drop for Slot<T> {
 /// # Ok::<(), fairexec_rt::Error>(())
 /// ```
 #[must_use = "a call that is dropped is given up"]
-pub struct Call<T>(Arc<Mutex<Answer<T>>>);
+pub struct Call<T>(
+    // None once it was answered.
+    Option<Arc<Both<T>>>,
+);
 
 impl<T> Future for Call<T> {
     type Output = Result<T, CallError>;
 
     fn poll(self: Pin<&mut Self>, cx: &mut Context<'_>) -> Poll<Self::Output> {
-        let mut answer = lock(&self.0);
-        if let Some(value) = answer.value.take() {
-            return Poll::Ready(value);
-        }
-        answer.caller = Some(cx.waker().clone());
-        Poll::Pending
+        let Some(shared) = &self.0 else { return Poll::Pending };
+        let value = {
+            let mut answer = lock(&shared.answer);
+            if answer.value.is_none() && !answer.caller.as_ref().is_some_and(|it| it.will_wake(cx.waker())) {
+                answer.caller = Some(cx.waker().clone());
+            }
+            answer.value.take()
+        };
+        value.map_or(Poll::Pending, |value| {
+            self.get_mut().0 = None;
+            Poll::Ready(value)
+        })
     }
 }
 
 impl<T> Drop for Call<T> {
     fn drop(&mut self) {
+        let Some(shared) = &self.0 else { return };
         let (callee, _caller) = {
-            let mut answer = lock(&self.0);
-            answer.is_given_up = true;
+            let mut answer = lock(&shared.answer);
+            shared.is_given_up.store(true, Ordering::Release);
             (answer.callee.take(), answer.caller.take())
         };
         if let Some(callee) = callee {
@@ -173,10 +195,14 @@ impl Start {
 async fn answer<F: Future>(slot: Slot<F::Output>, make: impl FnOnce() -> F) {
     let mut future = pin!(AssertUnwindSafe(async move { make().await }).catch_unwind());
     let told = poll_fn(|cx| {
-        if slot.is_given_up(cx) {
+        if slot.is_given_up() {
             return Poll::Ready(None);
         }
-        future.as_mut().poll(cx).map(Some)
+        match future.as_mut().poll(cx) {
+            Poll::Ready(told) => Poll::Ready(Some(told)),
+            Poll::Pending if slot.is_given_up_or_wakes(cx) => Poll::Ready(None),
+            Poll::Pending => Poll::Pending,
+        }
     })
     .await;
     if let Some(told) = told {
@@ -246,7 +272,7 @@ where
     let (start, call) = Start::new(make);
     here(|it| {
         it.check(core, queue);
-        it.outbox[core as usize].borrow_mut().push_back(Sending::Start(queue.0, start));
+        it.send(core, queue.0, start);
     });
     call
 }

@@ -59,13 +59,14 @@ fn run(local: &Local, job: &mut Job, cx: &mut Cx<'_, Job>, own: &mut Own, setup:
                 Step::Done(0)
             }
         }
-        Job::Call(start) => {
-            // Before the caller can see that it ended.
+        Job::Calls(calls) => {
+            // Before the caller can see that one ended.
             local.tell_busy();
-            if let Some(start) = start.take() {
-                start.start(queue);
+            if local.begin_calls(queue, calls) {
+                Step::Done(0)
+            } else {
+                Step::Yield
             }
-            Step::Done(0)
         }
     };
     if setup.slow_poll.is_some() {
@@ -213,15 +214,19 @@ impl<'a> Driver<'a> {
                 let Some(sending) = outbox.borrow_mut().pop_front() else { break };
                 let mut sent = self.local.sent[to].borrow_mut();
                 let (error, sending) = match sending {
-                    Sending::Start(queue, start) => match self.core.submit(to as u32, queue, Job::Call(Some(start))) {
-                        Ok(ticket) => {
-                            sent.calls[queue as usize].push_back(ticket);
-                            did = true;
-                            continue;
+                    Sending::Calls(queue, calls) => {
+                        let count = calls.len();
+                        match self.core.submit(to as u32, queue, Job::Calls(calls)) {
+                            Ok(ticket) => {
+                                sent.calls[queue as usize].push_back((ticket, count));
+                                sent.count += count;
+                                did = true;
+                                continue;
+                            }
+                            Err((error, Job::Calls(calls))) => (error, Some(Sending::Calls(queue, calls))),
+                            Err((error, _)) => (error, None),
                         }
-                        Err((error, Job::Call(Some(start)))) => (error, Some(Sending::Start(queue, start))),
-                        Err((error, _)) => (error, None),
-                    },
+                    }
                     Sending::Shares(queue, shares, slot) => match self.core.set_shares(to as u32, queue, shares) {
                         Ok(ticket) => {
                             sent.shares.push((ticket, slot));
@@ -256,12 +261,13 @@ impl<'a> Driver<'a> {
             }
             let sent = &mut *sent.borrow_mut();
             for calls in &mut sent.calls {
-                while let Some(ticket) = calls.front() {
+                while let Some((ticket, count)) = calls.front() {
                     match self.core.redeem(ticket) {
                         Err(fairexec::Error::Pending) => break,
-                        // A call that came back is dropped, which its caller is told.
+                        // Calls that came back are dropped, which their callers are told.
                         told => drop(told?),
                     }
+                    sent.count -= count;
                     calls.pop_front();
                     did = true;
                 }

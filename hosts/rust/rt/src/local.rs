@@ -18,39 +18,85 @@ use std::thread::{self, ThreadId};
 pub(crate) enum Job {
     /// A task of the core that it is submitted to. `None` while it runs.
     Task(Option<Turn>),
-    /// A call. `None` once it was started.
-    Call(Option<Start>),
+    /// Calls for one queue. They stand among those of the queue once this has run.
+    Calls(Calls),
+}
+
+/// Calls of one core for one queue of another, in their order.
+pub(crate) struct Calls {
+    first: Option<Start>,
+    // Mostly there is none, and then nothing is allocated.
+    others: Vec<Start>,
+    /// The last one has begun once so many calls of the queue have.
+    end: Option<u64>,
+}
+
+impl Calls {
+    pub(crate) fn new(first: Start) -> Calls {
+        Calls { first: Some(first), others: Vec::new(), end: None }
+    }
+
+    pub(crate) fn len(&self) -> usize {
+        usize::from(self.first.is_some()) + self.others.len()
+    }
 }
 
 /// What goes to another core once its link has room.
 pub(crate) enum Sending {
-    /// A call, for a queue.
-    Start(u32, Start),
+    /// Calls, for a queue.
+    Calls(u32, Calls),
     /// Shares for a queue.
     Shares(u32, u32, Slot<()>),
 }
 
+impl Sending {
+    /// How many calls or orders.
+    fn len(&self) -> usize {
+        match self {
+            Sending::Calls(_, calls) => calls.len(),
+            Sending::Shares(..) => 1,
+        }
+    }
+}
+
 /// What was submitted to a core and whose outcome isn't known.
 pub(crate) struct Sent {
-    /// Calls, by their queue. Each is one run, so those of a queue end in their order.
-    pub(crate) calls: Vec<VecDeque<Ticket>>,
+    /// Calls that went together, by their queue, with how many they are. Those of a queue begin in their order.
+    pub(crate) calls: Vec<VecDeque<(Ticket, usize)>>,
+    /// How many calls these are.
+    pub(crate) count: usize,
     /// New shares.
     pub(crate) shares: Vec<(Ticket, Slot<()>)>,
 }
 
 impl Sent {
+    /// How many calls and orders.
     pub(crate) fn len(&self) -> usize {
-        self.calls.iter().map(VecDeque::len).sum::<usize>() + self.shares.len()
+        self.count + self.shares.len()
     }
+}
+
+/// Calls of a queue of this core that came here and haven't begun, and how many of it have begun.
+#[derive(Default)]
+struct Begins {
+    waiting: VecDeque<Start>,
+    begun: u64,
 }
 
 /// No task.
 const NONE: usize = usize::MAX;
 
+/// What the wakers of a core's tasks know of the core. They count their references here, on lines of a cache that no other core writes, mostly.
+pub(crate) struct Home {
+    pub(crate) shared: Arc<Shared>,
+    pub(crate) core: u32,
+    pub(crate) thread: ThreadId,
+}
+
 /// The thread of a core.
 pub(crate) struct Local {
     pub(crate) number: u32,
-    pub(crate) thread: ThreadId,
+    pub(crate) home: Arc<Home>,
     pub(crate) shared: Arc<Shared>,
     pub(crate) reactor: Reactor,
     pub(crate) timers: Timers,
@@ -68,6 +114,8 @@ pub(crate) struct Local {
     /// By the core.
     pub(crate) outbox: Vec<RefCell<VecDeque<Sending>>>,
     pub(crate) sent: Vec<RefCell<Sent>>,
+    // By the queue.
+    begins: Vec<RefCell<Begins>>,
     // Room for mail.
     mail: RefCell<Vec<Mail>>,
     /// Who awaits a stop.
@@ -102,10 +150,10 @@ pub(crate) fn on_core<R>(local: Local, call: impl FnOnce(&Local) -> R) -> R {
 impl Local {
     pub(crate) fn new(number: u32, shared: Arc<Shared>, reactor: Reactor) -> Local {
         let (cores, queues) = (shared.cores(), shared.queues.len());
-        let sent = || Sent { calls: (0..queues).map(|_| VecDeque::new()).collect(), shares: Vec::new() };
+        let sent = || Sent { calls: (0..queues).map(|_| VecDeque::new()).collect(), count: 0, shares: Vec::new() };
         Local {
             number,
-            thread: thread::current().id(),
+            home: Arc::new(Home { shared: Arc::clone(&shared), core: number, thread: thread::current().id() }),
             shared,
             reactor,
             timers: Timers::default(),
@@ -117,6 +165,7 @@ impl Local {
             slice: Cell::new(0),
             outbox: (0..cores).map(|_| RefCell::default()).collect(),
             sent: (0..cores).map(|_| RefCell::new(sent())).collect(),
+            begins: (0..queues).map(|_| RefCell::default()).collect(),
             mail: RefCell::default(),
             stopping: RefCell::default(),
             is_quiet: Cell::new(false),
@@ -135,7 +184,48 @@ impl Local {
     /// Whether the link to a core takes no more.
     pub(crate) fn is_full(&self, core: u32) -> bool {
         let core = core as usize;
-        self.outbox[core].borrow().len() + self.sent[core].borrow().len() >= self.shared.places as usize
+        let waiting: usize = self.outbox[core].borrow().iter().map(Sending::len).sum();
+        waiting + self.sent[core].borrow().len() >= self.shared.places as usize
+    }
+
+    /// Sends a call behind this run. It goes with the one before if that is for the same queue.
+    pub(crate) fn send(&self, core: u32, queue: u32, start: Start) {
+        let mut outbox = self.outbox[core as usize].borrow_mut();
+        match outbox.back_mut() {
+            Some(Sending::Calls(other, calls)) if *other == queue => calls.others.push(start),
+            _ => outbox.push_back(Sending::Calls(queue, Calls::new(start))),
+        }
+    }
+
+    /// Starts calls of a queue in the order in which they came, up to the last one of these, or as long as the slice of the queue is. Whether these have
+    /// all begun.
+    pub(crate) fn begin_calls(&self, queue: u32, calls: &mut Calls) -> bool {
+        let (begins, began) = (&self.begins[queue as usize], self.began.get());
+        let end = {
+            let Begins { waiting, begun } = &mut *begins.borrow_mut();
+            waiting.extend(calls.first.take().into_iter().chain(calls.others.drain(..)));
+            *calls.end.get_or_insert(*begun + waiting.len() as u64)
+        };
+        let next = || {
+            let Begins { waiting, begun } = &mut *begins.borrow_mut();
+            *begun += 1;
+            // It is gone if the core closes.
+            waiting.pop_front()
+        };
+        let has_all = || begins.borrow().begun >= end;
+        while !has_all() {
+            next().into_iter().for_each(|it| it.start(queue));
+            if has_all() {
+                break;
+            }
+            let now = wall_clock();
+            if now.saturating_sub(began) >= self.slice.get() {
+                break;
+            }
+            self.began.set(now);
+        }
+        self.began.set(began);
+        has_all()
     }
 
     /// A task was woken.
@@ -232,6 +322,10 @@ impl Local {
         }
         for outbox in &self.outbox {
             let all = outbox.take();
+            drop(all);
+        }
+        for begins in &self.begins {
+            let all = std::mem::take(&mut begins.borrow_mut().waiting);
             drop(all);
         }
         self.timers.clear();

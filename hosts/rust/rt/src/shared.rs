@@ -71,7 +71,8 @@ pub(crate) enum Mail {
     Shares(u32, u32, Slot<()>),
 }
 
-/// What other threads reach of a core.
+/// What other threads reach of a core. No other core has something on these lines of a cache.
+#[repr(align(128))]
 pub(crate) struct Port {
     ringer: Ringer,
     has_mail: AtomicBool,

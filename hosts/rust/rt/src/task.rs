@@ -1,7 +1,7 @@
 //! Tasks of one core.
 
-use crate::local::{here, with_here, Local};
-use crate::shared::{Mail, Queue, Shared};
+use crate::local::{here, with_here, Home, Local};
+use crate::shared::{Mail, Queue};
 use async_task::{FallibleTask, Runnable};
 use futures_lite::future::FutureExt;
 use std::any::Any;
@@ -182,24 +182,23 @@ impl Drop for Turn {
 }
 
 /// Where a task goes when it was woken.
-struct Home {
-    shared: Arc<Shared>,
-    core: u32,
+struct Place {
+    home: Arc<Home>,
     queue: u32,
     task: usize,
-    thread: ThreadId,
 }
 
-impl Home {
+impl Place {
     fn take(&self, runnable: Runnable) {
-        let mut turn = Some(Turn { runnable: Some(runnable), task: self.task, thread: self.thread });
+        let home = &self.home;
+        let mut turn = Some(Turn { runnable: Some(runnable), task: self.task, thread: home.thread });
         with_here(|it| {
-            if it.number == self.core && Arc::ptr_eq(&it.shared, &self.shared) {
+            if Arc::ptr_eq(&it.home, home) {
                 it.take_woken(self.queue, turn.take().expect("it is taken once"));
             }
         });
         if let Some(turn) = turn {
-            self.shared.ports[self.core as usize].leave(Mail::Woken(self.queue, turn));
+            home.shared.ports[home.core as usize].leave(Mail::Woken(self.queue, turn));
         }
     }
 }
@@ -215,15 +214,14 @@ fn make<T: 'static>(
     let entry = all.vacant_entry();
     let number = entry.key();
     let alive = Alive { number, has_ended };
-    let thread = local.thread;
-    let home = Home { shared: Arc::clone(&local.shared), core: local.number, queue, task: number, thread };
+    let place = Place { home: Arc::clone(&local.home), queue, task: number };
     let future = async move {
         let _alive = alive;
         AssertUnwindSafe(future).catch_unwind().await
     };
-    let (runnable, task) = async_task::spawn_local(future, move |runnable| home.take(runnable));
+    let (runnable, task) = async_task::spawn_local(future, move |runnable| place.take(runnable));
     entry.insert(runnable.waker());
-    (Turn { runnable: Some(runnable), task: number, thread }, task.fallible())
+    (Turn { runnable: Some(runnable), task: number, thread: local.home.thread }, task.fallible())
 }
 
 /// Starts a task in a queue of this core. It needn't be `Send`, and never leaves this thread. A panic of the task ends the task alone.

@@ -2,8 +2,8 @@
 
 use fairexec_rt::{fs, set_shares, sleep, spawn_local, stats, stop, stopping, submit, try_submit, yield_now, CallError, Executor, Journal, Queue};
 use std::rc::Rc;
-use std::sync::atomic::{AtomicU64, Ordering};
-use std::sync::Arc;
+use std::sync::atomic::{AtomicBool, AtomicU64, Ordering};
+use std::sync::{Arc, Mutex};
 use std::time::{Duration, Instant};
 
 const BACKGROUND: Queue = Queue::new(1);
@@ -100,6 +100,48 @@ fn a_full_link_gives_the_function_back() {
             }
         })
         .unwrap();
+}
+
+/// Calls to core 1 that spin for 5 µs each, once they may go, where a slice is 1 µs: 300 in the first queue, and one in the other.
+async fn spin_on_core_1(begun: &Arc<Mutex<Vec<u32>>>) {
+    let may_go = Arc::new(AtomicBool::new(false));
+    let call = |queue, number: u32| {
+        let (begun, may_go) = (Arc::clone(begun), Arc::clone(&may_go));
+        submit(1, queue, move || async move {
+            while !may_go.load(Ordering::SeqCst) {
+                std::hint::spin_loop();
+            }
+            let began = Instant::now();
+            while began.elapsed() < Duration::from_micros(5) {}
+            begun.lock().unwrap().push(number);
+        })
+    };
+    let calls: Vec<_> = (0..300).map(|it| call(Queue::FIRST, it)).chain([call(BACKGROUND, 300)]).collect();
+    // By then they are in the link.
+    sleep(Duration::from_millis(1)).await;
+    may_go.store(true, Ordering::SeqCst);
+    for call in calls {
+        call.await.unwrap();
+    }
+}
+
+#[test]
+fn calls_that_go_together_begin_in_their_order_and_let_another_queue_run() {
+    let begun = Arc::new(Mutex::new(Vec::new()));
+    let tells = Arc::clone(&begun);
+    let server = Executor::builder().cores(2).queue("requests", 1000).slice(Duration::from_micros(1)).queue("background", 1000);
+    let report = server.journal(Journal::Keep).run(move |here| {
+        let begun = Arc::clone(&tells);
+        async move {
+            if here.core() == 0 {
+                spin_on_core_1(&begun).await;
+            }
+        }
+    });
+    assert!(report.unwrap().is_sound());
+    let begun = begun.lock().unwrap();
+    assert!(begun.iter().position(|it| *it == 300).unwrap() < 100, "{begun:?}");
+    assert!(begun.iter().filter(|it| **it < 300).copied().eq(0..300), "{begun:?}");
 }
 
 #[test]

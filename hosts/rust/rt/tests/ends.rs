@@ -91,6 +91,8 @@ fn who_waits_for_a_core_that_fails_is_told() {
                     let _sender = sender;
                     pending::<()>().await
                 });
+                // The thread that calls has begun.
+                here.barrier().await;
                 loop {
                     yield_now().await;
                 }
@@ -102,6 +104,7 @@ fn who_waits_for_a_core_that_fails_is_told() {
                 let later = block_on(handle.submit(1, Queue::FIRST, pending::<()>));
                 tells.send((call, later, block_on(handle.set_shares(1, Queue::FIRST, 500))))
             });
+            here.barrier().await;
             pending::<()>().await
         }
     });

@@ -52,7 +52,8 @@ impl Ticket {
 /// What an actor knows of its submissions to one core. No other actor has something on these lines of a cache.
 #[repr(align(128))]
 struct Sent {
-    // The places where no job of this actor stands, from that which is vacant longest: neighbours are on one line of a cache.
+    // The places where no job of this actor stands. A job for another core takes that which is vacant longest, since neighbours are on one line of a
+    // cache, and one for the core itself that which was used last.
     vacant: VecDeque<u32>,
     // So many stay vacant. On its link to itself a core keeps a place for orders: if jobs that wait had all of them, no wake could go out.
     kept: usize,
@@ -84,6 +85,8 @@ pub(super) struct Actor<J> {
     pub(super) lanes: Arc<Lanes<J>>,
     // By the core.
     sent: Vec<Sent>,
+    // Orders of a core to itself that it didn't deliver.
+    undelivered: u32,
     // Whether the last collection ended before it redeemed each of those for which nobody asks: the journal was too full, or it panicked.
     misses: bool,
     // Of a core: what it delivered.
@@ -120,7 +123,7 @@ impl<J> Actor<J> {
         let none = |to| Sent { vacant: (0..room).collect(), kept: keeps(to), pending: 0, ready: 0, is_used: false, loose: VecDeque::new() };
         let sent = (0..lanes.cores()).map(none).collect();
         let fresh = Fresh::new(lanes.cores() + 1);
-        Actor { seat, number, lanes, sent, misses: false, fresh }
+        Actor { seat, number, lanes, sent, undelivered: 0, misses: false, fresh }
     }
 
     /// Each call below is made by an actor that was entered.
@@ -134,13 +137,15 @@ impl<J> Actor<J> {
     pub(super) fn submit(&mut self, to: u32, queue: u32, job: J) -> Result<Ticket, (Error, J)> {
         let Some(sent) = self.sent.get_mut(to as usize) else { return Err((Error::UnknownCore, job)) };
         // A link that is full has a job in each place but one at most.
-        let Some(&place) = sent.vacant.front().filter(|_| sent.vacant.len() > sent.kept) else { return Err((Error::Full, job)) };
+        let is_own = to == self.number;
+        let place = if is_own { sent.vacant.back() } else { sent.vacant.front() };
+        let Some(&place) = place.filter(|_| sent.vacant.len() > sent.kept) else { return Err((Error::Full, job)) };
         sent.tell_use(&self.lanes, self.number, to);
         // SAFETY: a vacant place is the sender's.
         unsafe { self.lanes.put(self.number, to, place, job) };
         match self.seat.submit(to, queue, place) {
             Ok(number) => {
-                sent.vacant.pop_front();
+                let _taken = if is_own { sent.vacant.pop_back() } else { sent.vacant.pop_front() };
                 Ok(self.accepted(Name { from: self.number, to, number }, place))
             }
             Err(error) => {
@@ -164,22 +169,25 @@ impl<J> Actor<J> {
     #[inline]
     fn accepted(&mut self, name: Name, place: u32) -> Ticket {
         self.sent[name.to as usize].pending += 1;
+        self.undelivered += u32::from(name.to == self.number);
         self.lanes.ring(name.to);
         Ticket { name, house: self.lanes.house(), place }
     }
 
-    /// Whether the link from an actor to this core may show an order. That from itself shows none if no outcome is missing.
+    /// Whether the link from an actor to this core may show an order. That from itself shows what wasn't delivered.
     #[inline]
     pub(super) fn may_show(&self, sender: u32) -> bool {
         if sender == self.number {
-            return self.sent[sender as usize].pending > 0;
+            return self.undelivered > 0;
         }
         self.lanes.is_used(sender, self.number)
     }
 
     /// Delivers so many orders of this actor at most. How many it were.
     pub(super) fn deliver(&mut self, sender: u32, most: u32) -> Result<u32, Error> {
-        let mut count = 0;
+        let (is_own, mut count) = (sender == self.number, 0);
+        // A look at its own link that finds nothing is spared.
+        let most = if is_own { most.min(self.undelivered) } else { most };
         let told = loop {
             if count == most {
                 break Ok(count);
@@ -191,6 +199,7 @@ impl<J> Actor<J> {
             }
         };
         self.fresh.deliver(sender, count);
+        self.undelivered -= if is_own { count } else { 0 };
         told
     }
 
