@@ -110,18 +110,17 @@ Exit status:
   4  there was no memory";
 
 /// The commands and arguments of the program, with their help.
+#[tactic(auto, unfolding(crate::specs::CommandLine::our_app, crate::specs::CommandLine::audit_app, crate::specs::CommandLine::journal_app))]
 pub fn command<'a>(alloc: Global) -> Result<Command<'a>, AllocError>
     ensures app { IfOk result (λ command. app_of command ≡ spec.our_app) }
     ensures whole { IfOk result (λ command. is_broken command ≡ false) }
 {
-    let runs = running(alloc)?;
-    let audit = audit_command(alloc)?;
-    let with_audit = with_command(runs, audit)?;
-    let journal = journal_command(alloc)?;
-    with_command(with_audit, journal)
+    let with_audit = with_command(running(alloc)?, audit_command(alloc)?)?;
+    with_command(with_audit, journal_command(alloc)?)
 }
 
 /// The program with the two commands that run scripts.
+#[tactic(auto, unfolding(crate::specs::CommandLine::with_runs, crate::specs::CommandLine::run_app, crate::specs::CommandLine::threads_app))]
 fn running<'a>(alloc: Global) -> Result<Command<'a>, AllocError>
     ensures app { IfOk result (λ command. app_of command ≡ spec.with_runs) }
     ensures whole { IfOk result (λ command. is_broken command ≡ false) }
@@ -132,13 +131,12 @@ fn running<'a>(alloc: Global) -> Result<Command<'a>, AllocError>
         "Runs scripts on the model of a thread-per-core executor with fair task queues, or on its threads",
         AFTER_HELP,
     )?;
-    let run = run_command(alloc)?;
-    let with_run = with_command(program, run)?;
-    let threads = threads_command(alloc)?;
-    with_command(with_run, threads)
+    let with_run = with_command(program, run_command(alloc)?)?;
+    with_command(with_run, threads_command(alloc)?)
 }
 
 /// `run [--journal] [--stats] [FILE]`
+#[tactic(auto, unfolding(crate::specs::CommandLine::run_app))]
 fn run_command<'a>(alloc: Global) -> Result<Command<'a>, AllocError>
     ensures app { IfOk result (λ command. app_of command ≡ spec.run_app) }
     ensures whole { IfOk result (λ command. is_broken command ≡ false) }
@@ -165,6 +163,7 @@ fn run_command<'a>(alloc: Global) -> Result<Command<'a>, AllocError>
 }
 
 /// `threads [--journal] [--stats] [FILE]`
+#[tactic(auto, unfolding(crate::specs::CommandLine::threads_app))]
 fn threads_command<'a>(alloc: Global) -> Result<Command<'a>, AllocError>
     ensures app { IfOk result (λ command. app_of command ≡ spec.threads_app) }
     ensures whole { IfOk result (λ command. is_broken command ≡ false) }
@@ -191,6 +190,7 @@ fn threads_command<'a>(alloc: Global) -> Result<Command<'a>, AllocError>
 }
 
 /// `audit [--bytes] [FILE]`
+#[tactic(auto, unfolding(crate::specs::CommandLine::audit_app))]
 fn audit_command<'a>(alloc: Global) -> Result<Command<'a>, AllocError>
     ensures app { IfOk result (λ command. app_of command ≡ spec.audit_app) }
     ensures whole { IfOk result (λ command. is_broken command ≡ false) }
@@ -211,6 +211,7 @@ fn audit_command<'a>(alloc: Global) -> Result<Command<'a>, AllocError>
 }
 
 /// `journal --text [FILE]`
+#[tactic(auto, unfolding(crate::specs::CommandLine::journal_app))]
 fn journal_command<'a>(alloc: Global) -> Result<Command<'a>, AllocError>
     ensures app { IfOk result (λ command. app_of command ≡ spec.journal_app) }
     ensures whole { IfOk result (λ command. is_broken command ≡ false) }
