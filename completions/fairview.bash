@@ -33,13 +33,13 @@ _fairview() {
         fi
     done
     case ${COMP_WORDS[1]}/$word in
-        wait/-*) _fairview_words "$word" '--plain --bytes --help -h' ;;
-        share/-*) _fairview_words "$word" '--plain --csv --bytes --help -h' ;;
-        why/-*) _fairview_words "$word" '--bytes --help -h' ;;
-        csv/-*) _fairview_words "$word" '--bytes --help -h' ;;
-        gantt/-*) _fairview_words "$word" '--core --from --to --bytes --help -h' ;;
-        lag/-*) _fairview_words "$word" '--text --bytes --help -h' ;;
-        trace/-*) _fairview_words "$word" '--bytes --help -h' ;;
+        wait/-*) _fairview_words "$word" '--plain --bytes --parts --help -h' ;;
+        share/-*) _fairview_words "$word" '--plain --csv --bytes --parts --help -h' ;;
+        why/-*) _fairview_words "$word" '--bytes --parts --help -h' ;;
+        csv/-*) _fairview_words "$word" '--bytes --parts --help -h' ;;
+        gantt/-*) _fairview_words "$word" '--core --from --to --bytes --parts --help -h' ;;
+        lag/-*) _fairview_words "$word" '--text --bytes --parts --help -h' ;;
+        trace/-*) _fairview_words "$word" '--bytes --parts --help -h' ;;
         # Behind an option of `gantt` stands a number.
         gantt/*)
             case ${COMP_WORDS[COMP_CWORD - 1]} in

@@ -513,6 +513,7 @@ uint32_t fx_seat_copy(fx_seat *seat, uint64_t from, uint64_t most, uint8_t *byte
  * whether one is missing. Of `most` notes a part has at most 45 + 27 * most bytes, of none 45.
  * The bytes `fxh1`, the count of the cores, the burst and the places (1, 1 and 2 bytes, the low one first), and behind them all parts of core 0, those
  * of each further actor by its number, each actor's in their order, are the whole journals. `fairexec audit --bytes`, `fairexec journal --text` and fairview read them.
+ * `fairexec audit --parts` judges a folder with the first bytes in the file `head` and the parts of actor N in `partN`.
  * FX_EMPTY; FX_NO_MEMORY; FX_SHORT, as fx_seat_copy; FX_OK.
  */
 uint32_t fx_seat_copy_bytes(fx_seat *seat, uint64_t before, uint64_t from, uint64_t most, uint8_t *bytes, size_t room, uint64_t *count, uint64_t *notes) FX_NOT_NULL;

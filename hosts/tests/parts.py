@@ -1,10 +1,12 @@
 """Parts of a journal as bytes, once more: the lines of notes as bytes, and bytes as lines. It shares nothing with the library.
 
-  parts.py MOST   writes the bytes of the journals whose text stands on standard input, in parts of at most so many notes
+  parts.py MOST          writes the bytes of the journals whose text stands on standard input, in parts of at most so many notes
+  parts.py MOST FOLDER   writes them to the files FOLDER/head, FOLDER/part0, .. of each actor
 """
 import re
 import struct
 import sys
+from pathlib import Path
 
 KINDS = "sent took back answered queue shares closed coreclosed woken pick start resume yield park stayed done returned turned shut collected redeemed detached".split()
 ORDERS = "job create shares close closecore wake".split()
@@ -146,5 +148,21 @@ def bytes_of(text, most):
     return b"fxh1" + struct.pack("<BBH", numbers["cores"], numbers["burst"], numbers["cap"]) + b"".join(parts)
 
 
+def files_of(data):
+    """The bytes of each file, by its name: the head, and the parts of each actor."""
+    files, at = {"head": data[:8], **{f"part{actor}": b"" for actor in range(data[4] + 1)}}, 8
+    while at < len(data):
+        actor, _, _, end = read_part(data, at)
+        files[f"part{actor}"] += data[at:end]
+        at = end
+    return files
+
+
 if __name__ == "__main__":
-    sys.stdout.buffer.write(bytes_of(sys.stdin.read(), int(sys.argv[1])))
+    made = bytes_of(sys.stdin.read(), int(sys.argv[1]))
+    if len(sys.argv) == 2:
+        sys.stdout.buffer.write(made)
+    else:
+        Path(sys.argv[2]).mkdir(parents=True, exist_ok=True)
+        for name, those in files_of(made).items():
+            (Path(sys.argv[2]) / name).write_bytes(those)

@@ -8,6 +8,9 @@ use Rattle.actor_core.proofs.Names.{Agrees, polls_made, DeskView, IsWritten, Sub
 use Rattle.actor_core.proofs.Names.{IsRecorded, desk_of, terms_at, given_count, KeepsIn, ArePosts, AreCollected}
 use Rattle.actor_core.proofs.Names.{CollectsFrom, RedeemsTicket, DetachesTicket, IsSameSeat, Pending}
 use Rattle.base_words.specs.declared.note.Note.TheVariants as writes
+use Rattle.std.specs.Prelude.{Bool, true, false}
+use Rattle.link_ends.specs.declared.ends.Outward.{Outward}
+use Rattle.actor_desk.specs.Tickets.{GetsNext}
 use Rattle.base_words.specs.declared.order.SendError.TheVariants.{Spent}
 use Rattle.actor_core.proofs.Kept.{IsOpenNote, closing-stays, agrees_unmoved, IsCalm}
 use Rattle.actor_core.proofs.EndsKept.{keeps_in}
@@ -112,6 +115,10 @@ module _ {J T : Type 0} (said now : DeskView J T) where
 
   pub collected_silent : (core count : ℕ) → CollectsFrom core said count now → SaysNoMore said.journal.notes now.journal.notes
   collected_silent core count collects = along collects.0 collects.3 (all_collected core collects.0 said.journal.notes collects.1)
+
+  pub next_silent : (core : ℕ) (out later : Outward J T) (found : Bool) → GetsNext core said now out later found → SaysNoMore said.journal.notes now.journal.notes
+  next_silent core out later true gets = along (writes.Collected gets.0.0 gets.0.1 ∷ []) gets.0.3 (collected_no_more (no_more said.journal.notes) gets.0.0 gets.0.1)
+  next_silent core out later false gets = nothing gets.0
 
   pub redeemed_silent : (name : JobId) (answer : Result (Outcome J T) TicketError) → RedeemsTicket name said answer now → SaysNoMore said.journal.notes now.journal.notes
   redeemed_silent name (Ok outcome) redeems = along (writes.Redeemed name (outcome_note outcome) ∷ []) redeems.2 (redeemed_no_more (no_more said.journal.notes) name (outcome_note outcome))

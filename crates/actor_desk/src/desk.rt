@@ -1,4 +1,7 @@
 //! One actor's submissions, to all cores.
+//!
+//! A desk has a lane for each core. It owns no link: each call is lent the actor's out ends, and keeps each lane in step with its end. A
+//! ticket of another actor, or of a core that isn't there, is refused here; what its number means is its lane's.
 
 ghost use Rattle.std.specs.Prelude.{◌≡◌, ◌↔◌, ◌<◌, ◌≤◌, ℕ, length, Option, Err, IfOk, IfSome, OnErr, IsTrue, slice_get};
 ghost use Rattle.base_words.specs.declared.names.TicketError.TheVariants.{Unknown};

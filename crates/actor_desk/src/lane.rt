@@ -1,4 +1,7 @@
 //! The submissions of one actor to one core.
+//!
+//! A number is given with each order that the link takes. From then on its shelf tells of it: pending, collected or detached. It leaves the
+//! shelf when both its outcome was collected and its ticket was redeemed or detached, and its place of the link is free then.
 
 ghost use Rattle.std.specs.Prelude.{◌≡◌, ◌↔◌, ℕ, Option, is_some, IfOk, IfSome, IsTrue, OnErr};
 ghost use Rattle.base_words.specs.Outcomes.{IsSpelledOutcome};

@@ -1,4 +1,7 @@
 //! One actor's journal, and what it knows of its submissions.
+//!
+//! A call changes the lane and its link, and then writes its note, so each step has one. A call that is refused writes none.
+//! Whoever keeps room for the notes that are booked (collected, and redeemed or detached, of each submission) is never refused for a full journal.
 
 ghost use Rattle.std.specs.Prelude.{◌≡◌, ◌↔◌, ℕ, ◌+◌, ◌<◌, ◌≤◌, ◌≢◌, ◌++◌, false, length, reverse, replicate, IfOk, IsTrue};
 ghost use Rattle.base_words.specs.Outstanding.{outstanding_count};
@@ -223,7 +226,7 @@ impl<J: Task<Out = u64>> RecordedDesk<J> {
 
     /// Collects the next outcome that the link of a core shows, if there is one, and notes it. Whether there was one.
     #[inline(always)]
-    fn collect_one<O: OutEnd<J>>(&mut self, end: &mut O, core: CoreNo) -> bool
+    pub fn collect_one<O: OutEnd<J>>(&mut self, end: &mut O, core: CoreNo) -> bool
         requires beside { IsOutOf core self.old (O.out end.old) (O.credited end.old) }
         requires lane { HasLane (Fits J.meaning) core self.old (O.out end.old) (O.credited end.old) }
         requires room { length self.old.journal.notes + length (O.out end.old).sent ≤ self.old.journal.room + (O.out end.old).got }

@@ -1,9 +1,11 @@
 -- What an actor notes of its own submissions.
 use Rattle.actor_seat.proofs.Names.{ap, arith, CollectsFrom, DeskView, DetachesTicket, Err, Grows, JobId, Journal, length, length-append, Note, Ok, opening_of, Order, Outcome, outcome_note, RedeemsTicket, refl, Result, SendError, Submits}
 use Rattle.actor_seat.proofs.Names.{TicketError, without_job, ℕ, ◌+◌, ◌∙◌, ◌≡◌, ◌≤◌}
-use Rattle.std.specs.Prelude.{[], ◌∷◌}
+use Rattle.std.specs.Prelude.{Bool, true, false, [], ◌∷◌}
+use Rattle.link_ends.specs.declared.ends.Outward.{Outward}
+use Rattle.actor_desk.specs.Tickets.{GetsNext}
 use Rattle.base_words.specs.declared.names.TicketError.TheVariants.{Unknown, Gone, Pending}
-use Rattle.base_words.specs.declared.note.Note.TheVariants.{Sent, Redeemed, Detached}
+use Rattle.base_words.specs.declared.note.Note.TheVariants.{Sent, Collected, Redeemed, Detached}
 use Rattle.base_words.specs.declared.order.SendError.TheVariants.{Closed, Full, Spent, NoCore}
 use Rattle.actor_seat.proofs.Along.{grows_along}
 use Rattle.actor_seat.proofs.Openings.{opening_collected}
@@ -43,6 +45,10 @@ module _ {J T : Type 0} where
   submits_add to order old (Err (Full back)) new submits = refused_adds old new submits.2
   submits_add to order old (Err (Spent back)) new submits = refused_adds old new submits.3
   submits_add to order old (Err (NoCore back)) new submits = absurd submits
+
+  pub next_adds : (core : ℕ) (old new : DeskView J T) (out later : Outward J T) (found : Bool) → GetsNext core old new out later found → Adds 1 old.journal.notes new.journal.notes
+  next_adds core old new out later true gets = adds_one (Collected gets.0.0 gets.0.1) (ap (λ journal. journal.notes) gets.0.3) refl
+  next_adds core old new out later false gets = refused_adds old new gets.0
 
   pub redeems_add : (name : JobId) (old : DeskView J T) (answer : Result (Outcome J T) TicketError) (new : DeskView J T) → RedeemsTicket name old answer new → Adds 1 old.journal.notes new.journal.notes
   redeems_add name old (Ok outcome) new redeems = adds_one (Redeemed name (outcome_note outcome)) (ap (λ journal. journal.notes) redeems.2) refl

@@ -3,7 +3,10 @@ use Rattle.actor_seat.proofs.Names.{ap, AreBeside, AreOutsOf, arith, changed, co
 use Rattle.actor_seat.proofs.Names.{IsLinked, IsOutOf, IsRecorded, IsSameSeat, IsSeated, KeepsIn, length, length-append, length-set, List, Meaning, no_out, Ok, Order, out_at, out_used, Outward, RecordedView, refl, Result, SameEnds, seen_by}
 use Rattle.actor_seat.proofs.Names.{seen_got, sees_more_owed, SeesNoLess, SendError, Sending, Sends, set, slice_get, slice_get-get_or, Some, StaysBeside, StaysLinked, subst, sym, unchanged, UsesOut, with_out, ℕ, ◌+◌, ◌<◌, ◌∙◌, ◌≡◌, ◌≤◌}
 use Rattle.base_words.specs.declared.order.SendError.TheVariants.{Closed, Full, Spent, NoCore}
-use Rattle.actor_seat.proofs.Adding.{Adds, collects_add}
+use Rattle.std.specs.Prelude.{Bool, true, false}
+use Rattle.actor_desk.specs.Tickets.{GetsNext}
+use Rattle.actor_seat.specs.Steps.{CollectsOne}
+use Rattle.actor_seat.proofs.Adding.{Adds, collects_add, next_adds}
 use Rattle.actor_seat.proofs.Posted.{resent_beside}
 use Rattle.actor_seat.proofs.Seen.{out_put_sees, prefix_shorter}
 
@@ -26,6 +29,12 @@ module _ {J T : Type 0} where
   sends_seen old credited order new (Err (Full back)) sends = ap (λ out. out.seen) sends.3
   sends_seen old credited order new (Err (Spent back)) sends = ap (λ out. out.seen) sends.4
   sends_seen old credited order new (Err (NoCore back)) sends = absurd sends
+
+module _ {J T : Type 0} where
+  -- a collection sees no less than before
+  pub next_sees : (core : ℕ) (old new : DeskView J T) (out later : Outward J T) (found : Bool) → GetsNext core old new out later found → length out.seen ≤ length later.seen
+  next_sees core old new out later true gets = prefix_shorter out.seen later.seen gets.2
+  next_sees core old new out later false gets = prefix_shorter out.seen later.seen gets.2
 
 module _ {J T : Type 0} {meaning : Meaning J T} {core : ℕ} {desk : DeskView J T} {ends : EndsView J T} {before : Sending J T} (lent : LendsOut meaning core desk ends before) where
   in_place : core < length ends.outs
@@ -64,6 +73,11 @@ module _ {J T : Type 0} {meaning : Meaning J T} {core : ℕ} {desk : DeskView J 
         subst (λ (end : Sending J T). GetsAll end.out (out_at core (with_out core after ends)).out) lent.is
         (subst (λ (end : Sending J T). GetsAll before.out end.out) (sym out_now) gets)
 
+    pub out_next : (desk now : DeskView J T) (found : Bool) → GetsNext core desk now before.out after.out found → GetsNext core desk now (out_at core ends).out (out_at core (with_out core after ends)).out found
+    out_next desk now found gets =
+        subst (λ (end : Sending J T). GetsNext core desk now end.out (out_at core (with_out core after ends)).out found) lent.is
+        (subst (λ (end : Sending J T). GetsNext core desk now before.out end.out found) (sym out_now) gets)
+
     -- no other end changes
     pub out_uses : UsesOut core ends (with_out core after ends)
     out_uses = record { others = λ other away. get_or-set_other ends.outs core other after no_out away; rest = refl }
@@ -94,6 +108,13 @@ module _ {J T : Type 0} {meaning : Meaning J T} {core : ℕ} {desk : DeskView J 
         ];
       }
 
+  -- an end that shows an outcome has a place
+  pub next_few : (now : DeskView J T) (after : Sending J T) (found : Bool) → GetsNext core desk now before.out after.out found → length now.journal.notes ≤ length desk.journal.notes + desk.cap
+  next_few now after true gets =
+      let sound = out_lane.lane_of.sound in
+      omega (arith, (next_adds core desk now before.out after.out true gets).few, ap (λ (out : Outward J T). out.got) gets.1, ap (λ (out : Outward J T). length out.sent) gets.1, gets.3, sound.room, sound.credits, out_beside.capacity)
+  next_few now after false gets = omega (arith, ap (λ (desk : DeskView J T). length desk.journal.notes) gets.0)
+
 -- the same of a core, whose other ends stay
 module _ {J T : Type 0} {meaning : Meaning J T} {recorded : RecordedView J T} {ends : EndsView J T} (beside : AreBeside (Fits meaning) recorded ends) {core : ℕ} {before : Sending J T}
     (lent : LendsOut meaning core (desk_of recorded) ends before) (now : RecordedView J T) (after : Sending J T) where
@@ -104,6 +125,17 @@ module _ {J T : Type 0} {meaning : Meaning J T} {recorded : RecordedView J T} {e
   pub out_seated : StaysBeside (Fits meaning) core (desk_of recorded) (desk_of now) after.out after.credited → ((sender : ℕ) → KeepsIn sender recorded now) → IsSameSeat recorded now → IsRecorded meaning now →
       IsSeated meaning (record { recorded = now; ends = with_out core after ends })
   out_seated stays ins seat sound = record { recorded = sound; beside = resent_beside recorded now ends ends refl (set ends.outs core after) beside ins seat (outs_now lent after stays) }
+
+  -- the next outcome is collected, if the end shows one
+  pub next_does : (found : Bool) → GetsNext core (desk_of recorded) (desk_of now) before.out after.out found → now ≡ record recorded { journal = now.journal; lanes = now.lanes } → IsSameSeat recorded now → after.link ≡ before.link →
+      CollectsOne core (record { recorded = recorded; ends = ends }) found (record { recorded = now; ends = with_out core after ends })
+  next_does found gets rest seat link = record {
+    gets = out_next lent after (desk_of recorded) (desk_of now) found gets;
+    others = (out_uses lent after).others;
+    few = next_few lent (desk_of now) after found gets;
+    rest = rest;
+    stays = out_stays seat link (next_sees core (desk_of recorded) (desk_of now) before.out after.out found gets) (next_adds core (desk_of recorded) (desk_of now) before.out after.out found gets);
+  }
 
   -- all outcomes are collected that the end shows
   module _ (count : ℕ) (collects : CollectsFrom core (desk_of recorded) count (desk_of now)) (all : GetsAll before.out after.out) (rest : now ≡ record recorded { journal = now.journal; lanes = now.lanes }) where

@@ -18,7 +18,7 @@ use Rattle.actor_desk.specs.Posts.{HasPosted}
 use Rattle.actor_desk.specs.Calls.{Does}
 use Rattle.actor_core.specs.Whole.{Begins, LeavesTurn, post_of}
 use Rattle.actor_desk.specs.Spending.{left_of}
-use Rattle.actor_desk.specs.Tickets.{CollectsFrom, GetsAll}
+use Rattle.actor_desk.specs.Tickets.{CollectsFrom, GetsAll, GetsNext}
 use Rattle.actor_core.specs.Turns.{IsPick, IsFurther, IsHandBack, Settles}
 use Rattle.link_ring.specs.Ends.{in_at, out_at}
 use Rattle.actor_seat.specs.Linked.{LinkedView, StaysLinked}
@@ -49,6 +49,14 @@ module _ {J T : Type 0} where
     pub all : GetsAll (out_at core old.ends).out (out_at core new.ends).out
     pub others : (other : ℕ) → other ≢ core → out_at other new.ends ≡ out_at other old.ends
     pub few : count ≤ old.recorded.cap
+    pub rest : new.recorded ≡ record old.recorded { journal = new.recorded.journal; lanes = new.recorded.lanes }
+    pub stays : StaysLinked old new
+
+  -- the next outcome that the end to this core shows is collected, if it shows one
+  pub record CollectsOne (core : ℕ) (old : LinkedView J T) (found : Bool) (new : LinkedView J T) : Type 0 where
+    pub gets : GetsNext core (desk_of old.recorded) (desk_of new.recorded) (out_at core old.ends).out (out_at core new.ends).out found
+    pub others : (other : ℕ) → other ≢ core → out_at other new.ends ≡ out_at other old.ends
+    pub few : length new.recorded.journal.notes ≤ length old.recorded.journal.notes + old.recorded.cap
     pub rest : new.recorded ≡ record old.recorded { journal = new.recorded.journal; lanes = new.recorded.lanes }
     pub stays : StaysLinked old new
 

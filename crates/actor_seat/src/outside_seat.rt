@@ -1,4 +1,6 @@
 //! The outside actor at its seat: its journal beside its end to each core.
+//!
+//! One thread owns it. The links are all that it shares with a core: it writes orders there and reads outcomes, and has no other way in.
 
 ghost use Rattle.std.specs.Prelude.{◌≡◌, ◌↔◌, ◌+◌, ◌<◌, ◌≤◌, IfOk, OnErr, IsTrue, false, length};
 ghost use Rattle.base_words.specs.Outstanding.{outstanding_count};
@@ -10,7 +12,7 @@ ghost use Rattle.actor_desk.specs.Lanes.{FitsSent, IsGot};
 ghost use Rattle.note_journal.specs.Passing.{IsAsked, KeepsRefusals, PassesOn};
 ghost use Rattle.actor_desk.specs.Spending.{HoldsSome, Spends, booked};
 ghost use Rattle.actor_desk.specs.Submissions.{Submits, numbered};
-ghost use Rattle.actor_desk.specs.Tickets.{CollectsFrom, DetachesTicket, GetsAll, RedeemsTicket, RefusesTicket};
+ghost use Rattle.actor_desk.specs.Tickets.{CollectsFrom, DetachesTicket, GetsAll, GetsNext, RedeemsTicket, RefusesTicket};
 ghost use Rattle.link_ring.specs.Ends.{out_at};
 ghost use Rattle.actor_seat.specs.OutsideSeats.{IsSeatedOutside, UsesOutside};
 
@@ -150,6 +152,16 @@ impl<J: Task<Out = u64>> OutsideSeat<J> {
         ensures uses { UsesOutside (Fits J.meaning) core self.old self.new }
     {
         self.desk.collect_from(self.ends.out_mut(core), core)
+    }
+
+    /// Collects the next outcome that the end to this core shows, if there is one. Whether there was one.
+    pub fn collect_one(&mut self, core: CoreNo) -> bool
+        requires there { core < self.old.desk.cores }
+        requires room { length self.old.desk.journal.notes + length (out_at core self.old.ends).out.sent ≤ self.old.desk.journal.room + (out_at core self.old.ends).out.got }
+        ensures gets { GetsNext core self.old.desk self.new.desk (out_at core self.old.ends).out (out_at core self.new.ends).out result }
+        ensures uses { UsesOutside (Fits J.meaning) core self.old self.new }
+    {
+        self.desk.collect_one(self.ends.out_mut(core), core)
     }
 
     /// The outcome of a submission, which is gone from then on.

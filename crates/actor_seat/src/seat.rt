@@ -12,9 +12,11 @@ ghost use Rattle.core_core.specs.Whole.{TellsAhead};
 ghost use Rattle.base_words.specs.declared.note.OutcomeNote.TheVariants.{Returned};
 ghost use Rattle.base_words.specs.Bursts.{queue_in_turn};
 ghost use Rattle.base_words.specs.Closing.{core_mode, final_count};
+ghost use Rattle.base_words.specs.Commands.{IsOpening};
 ghost use Rattle.base_jobs.specs.Ready.{HasReadyJob};
 ghost use Rattle.actor_core.specs.Owed.{IsSentUnder};
-ghost use Rattle.actor_core.specs.Steps.{ClosesItself};
+ghost use Rattle.actor_core.specs.Ends.{IsSameSeat};
+ghost use Rattle.actor_core.specs.Steps.{ClosesItself, CreatesQueue};
 ghost use Rattle.actor_core.specs.Turns.{EndsTurn, Follows, IsOut, IsOutUnder, IsPolled, NothingFollows, Settles};
 ghost use Rattle.note_journal.specs.Passing.{IsAsked, KeepsRefusals, PassesOn};
 ghost use Rattle.link_ends.specs.Ends.{SoundIn};
@@ -23,14 +25,16 @@ ghost use Rattle.link_ring.specs.Ends.{SameEnds, in_at};
 ghost use Rattle.actor_seat.specs.declared.seat.Taken.TheVariants as taken;
 ghost use Rattle.actor_seat.specs.Linked.{AreBeside, AreOwing, IsLinked, SeesNoLess, StaysLinked};
 ghost use Rattle.actor_seat.specs.Seats.{DetachesOn, IsSeated, PicksTaken, RedeemsOn, SubmitsOn};
-ghost use Rattle.actor_seat.specs.Steps.{CollectsOf, DeliversFrom, ShutsGate};
+ghost use Rattle.actor_seat.specs.Steps.{CollectsOf, CollectsOne, DeliversFrom, ShutsGate};
 
 use actor_core::Recorded;
 use base_jobs::{Ran, Task};
 use base_words::{
-    ActorNo, CoreNo, JobId, Mode, Order, Outcome, QueueNo, Reason, SendError, Ticket, TicketError,
+    ActorNo, CoreNo, JobId, Mode, Order, Outcome, QueueNo, Reason, SendError, Shares, Ticket,
+    TicketError,
 };
 use core_core::{Ahead, PickError, Settled, Turn};
+use core_queues::CreateError;
 use link_ends::InEnd;
 use link_ring::Ends;
 use note_journal::{Refused, Sink};
@@ -180,6 +184,22 @@ impl<J: Task<Out = u64>> Seat<J> {
         self.recorded.pass_on(sink)
     }
 
+    /// Makes a queue before anything else is done.
+    ///
+    /// # Errors
+    ///
+    /// `TooMany` where the core has 256 queues; otherwise `Memory`. Nothing changes.
+    pub fn create(&mut self, shares: Shares) -> Result<QueueNo, CreateError>
+        requires opening { IsOpening self.old.recorded.journal.notes }
+        requires room { length self.old.recorded.journal.notes < self.old.recorded.journal.room }
+        ensures creates { CreatesQueue shares self.old.recorded result self.new.recorded }
+        ensures same { self.new.ends ≡ self.old.ends }
+        ensures seat { IsSameSeat self.old.recorded self.new.recorded }
+        ensures seated { IsSeated J.meaning self.new }
+    {
+        self.recorded.create(shares)
+    }
+
     /// Closes the core by itself. Whether that did anything: the first closing does, and `Return` after `Finish`.
     pub fn close(&mut self, mode: Mode) -> bool
         requires room { length self.old.recorded.journal.notes < self.old.recorded.journal.room }
@@ -225,6 +245,16 @@ impl<J: Task<Out = u64>> Seat<J> {
         ensures linked { IsLinked J.meaning self.old → IsLinked J.meaning self.new }
     {
         self.recorded.collect_from(self.ends.out_mut(core), core)
+    }
+
+    /// Collects the next outcome that the link to this core shows, if there is one. Whether there was one.
+    pub fn collect_one(&mut self, core: CoreNo) -> bool
+        requires known { core < self.old.recorded.core.cores }
+        requires room { length self.old.recorded.journal.notes + self.old.recorded.cap ≤ self.old.recorded.journal.room }
+        ensures does { CollectsOne core self.old result self.new }
+        ensures seated { IsSeated J.meaning self.new }
+    {
+        self.recorded.collect_one(self.ends.out_mut(core), core)
     }
 
     /// Sends an order to this core, and notes it if it is accepted.

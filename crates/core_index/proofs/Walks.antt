@@ -17,7 +17,8 @@ rest-filed rows bucket key left less is within held =
     held key (omega (arith, within key, first, copies-same key key (keys_from rows (next_of rows key) less) refl))
 
 -- the further ones are keys of the bucket too
-pub rest-within : (rows : List Row) (bucket : Bucket) (key next left less : ℕ) → left ≡ suc less → next ≡ next_of rows key → ((other : ℕ) → copies other (keys_from rows key left) ≤ copies other (keys_in rows bucket)) → (other : ℕ) → copies other (keys_from rows next less) ≤ copies other (keys_in rows bucket)
+pub rest-within : (rows : List Row) (bucket : Bucket) (key next left less : ℕ) → left ≡ suc less → next ≡ next_of rows key
+    → ((other : ℕ) → copies other (keys_from rows key left) ≤ copies other (keys_in rows bucket)) → (other : ℕ) → copies other (keys_from rows next less) ≤ copies other (keys_in rows bucket)
 rest-within rows bucket key next left less is goes within other =
     let all : copies other (keys_from rows key left) ≡ copies other (key ∷ keys_from rows (next_of rows key) less) = ap (copies other) (rest-step rows key left less is) in
     let same : copies other (keys_from rows next less) ≡ copies other (keys_from rows (next_of rows key) less) = ap (λ n. copies other (keys_from rows n less)) goes in

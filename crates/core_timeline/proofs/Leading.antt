@@ -1,5 +1,5 @@
 -- The keys of the front before those of the tree.
-use Rattle.std.proofs.Common.{◌≡◌, ◌≢◌, ℕ, zero, suc, ◌+◌, ◌*◌, ◌<◌, ◌≤◌, ◌^◌, true, false, not, ◌||◌, ◌==◌, List, [], ◌∷◌, ◌++◌, length, refl, ap, ◌∙◌, inl, inr, arith, length-append, append-nil, subst, sym}
+use Rattle.std.proofs.Common.{◌≡◌, ◌≢◌, ℕ, zero, suc, ◌+◌, ◌*◌, ◌<◌, ◌≤◌, ◌^◌, true, false, not, ◌||◌, ◌==◌, List, [], ◌∷◌, ◌++◌, length, refl, ap, ◌∙◌, inl, inr, arith, length-append}
 use Rattle.std.proofs.lemmas.Bool.{cases_Bool, both_ways, false_from_ne_true}
 use Rattle.std.proofs.lemmas.List.Folds.{list_any-append}
 use Rattle.std.proofs.lemmas.List.Elements.{filter-append}
@@ -34,11 +34,6 @@ inserted-behind_front key (next ∷ other ∷ more) later last rising =
     let before = behind_last next key (other ∷ more) (EachKey-front (StandsBefore next) (other ∷ more) later rising.0) last in
     inserted-behind key next ((other ∷ more) ++ later) (not_before-behind next key before)
     ∙ ap (λ keys. next ∷ keys) (inserted-behind_front key (other ∷ more) later last rising.1)
-
-pub inserted_last : (key : Key) (keys : List Key) → LastStandsBefore keys key → IsRising keys → inserted key keys ≡ keys ++ key ∷ []
-inserted_last key keys last rising =
-    let whole = append-nil keys in
-    subst (λ all. inserted key all ≡ keys ++ key ∷ []) whole (inserted-behind_front key keys [] last (subst IsRising (sym whole) rising))
 
 -- any other key goes among those of the front
 

@@ -100,16 +100,6 @@ impl<A: Allocator> Front<A> {
         self.places.is_before(self.places.end - 1, vr, queue)
     }
 
-    /// Whether the place of this key is behind all others.
-    #[inline(always)]
-    #[tactic(auto, using(crate::proofs::Leading::inserted_last))]
-    fn goes_last(&self, vr: u128, queue: QueueNo) -> bool
-        requires { IsRising self.now }
-        ensures { result ≡ true → inserted (record { vr = vr; queue = queue }) self.now ≡ self.now ++ (record { vr = vr; queue = queue }) ∷ [] }
-    {
-        self.is_empty() || self.stands_before(vr, queue)
-    }
-
     /// Puts a node behind all others.
     #[inline(always)]
     pub(crate) fn push(&mut self, node: Box<Node<A>, A>, vr: u128)
@@ -120,7 +110,7 @@ impl<A: Allocator> Front<A> {
         self.places.push(node, vr);
     }
 
-    /// Puts a node in the place of its key. A queue that ran goes behind all others most often, so that way stands inline.
+    /// Puts a node in the place of its key. A core of one ready queue has no other key, so that way stands inline.
     #[inline(always)]
     pub(crate) fn insert(&mut self, node: Box<Node<A>, A>, vr: u128)
         requires loose { IsLoose node.value }
@@ -128,7 +118,7 @@ impl<A: Allocator> Front<A> {
         requires room { length self.old < 32 }
         ensures { self.new ≡ inserted (key_of vr node.value) self.old }
     {
-        if self.goes_last(vr, node.queue) {
+        if self.is_empty() {
             self.push(node, vr);
         } else {
             self.places.insert(node, vr);

@@ -1,4 +1,7 @@
 //! The tree behind the timeline: balanced nodes, each seen with what hangs on it as keys and a height.
+//!
+//! A node owns what hangs on it, so a call goes down by borrows and mends the balance on its way back. No side is more than one level
+//! higher than the other (AVL). `balance` has the turns, `lead` joins the tree with the front before it.
 ghost use Rattle.std.specs.Prelude.{◌≡◌, ◌+◌, ◌^◌, ◌<◌, ◌↔◌, ◌∷◌, true, false, length, Some, is_some, IfSome, IfNone, IsTrue};
 ghost use Rattle.core_timeline.specs.Rising.{IsRising, stands_before, first_key, has_key, has_queue, removed};
 ghost use Rattle.core_timeline.specs.Tree.{empty_tree, IsFilled};

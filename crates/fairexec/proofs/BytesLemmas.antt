@@ -13,7 +13,8 @@ use Rattle.text_words.specs.Statuses.{status_of}
 use Rattle.text_words.specs.declared.fault.Fault.TheVariants as fault
 use Rattle.text_words.specs.declared.status.Status.TheVariants as status
 use Rattle.fairexec.specs.Answers.{RunAnswer}
-use Rattle.fairexec.specs.Bytes.{IsUnopenedBytes, TellsNone, TellsText}
+use Rattle.fair_parts.specs.Folders.{IsUnopened}
+use Rattle.fairexec.specs.Bytes.{TellsNone, TellsText}
 
 -- bytes without a text don't end as what an audit found
 pub no_bytes_found : (why : BytesFault) → bytes_status why ≢ status.FaultFound
@@ -50,6 +51,6 @@ module _ {R T : Type 0} (source : reading.Ghosts R) (old new : R) where
     file_text items (Err why) told = tt
 
     pub file_none : (answer : Result T BytesFault) → IfErr answer (TellsNone source old new) →
-        IfErr answer (λ why. (((from : R) × (to : R) × TellsNone source from to why) ⊎ IsUnopenedBytes why) × (after ≡ before))
+        IfErr answer (λ why. (((from : R) × (to : R) × TellsNone source from to why) ⊎ IsUnopened why) × (after ≡ before))
     file_none (Ok text) none = tt
     file_none (Err why) none = (inl (old, new, none), stays)

@@ -7,7 +7,7 @@ use Rattle.fair_args.specs.Refusals.{IsReason, IsTold, IsWrong}
 use Rattle.fair_args.specs.declared.unasked.Unasked.{Unasked}
 use Rattle.fair_args.specs.declared.unasked.Unasked.TheVariants as unasked
 use Rattle.fairexec_args.specs.declared.asked.What.{What}
-use Rattle.fairexec_args.specs.declared.asked.What.TheVariants.{Run, Threads, Audit, Journal}
+use Rattle.fairexec_args.specs.declared.asked.What.TheVariants.{Run, Threads, Audit, Parts, Journal}
 use Rattle.fairexec_report.proofs.TextsRefused.{texts_refused}
 use Rattle.fairexec_report.specs.VerdictTexts.{is_sound, verdict_text}
 use Rattle.fairexec_run.proofs.OutputsRefused.{outputs_refused}
@@ -27,10 +27,11 @@ use Rattle.text_words.specs.declared.fault.Fault.TheVariants.{Text, Read, Write,
 use Rattle.text_words.specs.declared.status.Status.{Status}
 use Rattle.text_words.specs.declared.status.Status.TheVariants as status
 use Rattle.fairexec.proofs.BytesLemmas.{no_bytes_found, none_found}
-use Rattle.fairexec.specs.Answers.{HasPrinted, RunAnswer, ThreadsAnswer}
+use Rattle.fairexec.specs.Answers.{AuditAnswer, HasJudgedText, HasPrinted, RunAnswer, ThreadsAnswer}
 use Rattle.fairexec.specs.BadEnds.{EndsAreRefused, EndsIn, RunIn, ThreadsIn, list_writes}
 use Rattle.fairexec.specs.Ends.{EndsBy, status_unasked}
 use Rattle.fairexec.specs.Files.{IsUnopened, IsUnopenedScript}
+use Rattle.fairexec.specs.Parts.{JudgesAll, JudgesParts}
 
 -- a verdict has a line
 written : (verdict : Verdict) → [] ≡ verdict_text verdict → ⊥
@@ -61,6 +62,7 @@ stays (Threads journal stats) old new result ends = cc ends.2.1
 stays (Audit false) old new result ends = cc ends.2.1
 stays (Audit true) old new result (inl ends) = cc ends.1.1
 stays (Audit true) old new result (inr ends) = cc ends.1.1
+stays Parts old new result ends = cc ends.1
 stays Journal old new result (inl ends) = cc ends.1.1
 stays Journal old new result (inr ends) = cc ends.1.1
 
@@ -118,6 +120,30 @@ printed : (left : List ℕ) (result : Status) → EndsIn [] left [] (codes "x") 
 printed left result (inl ended) = no_text ended.0 ended.1.told
 printed left result (inr refused) = cc refused.3
 
+-- parts are judged, and nothing is written
+unprinted_sound : (answer : RunAnswer) → status.Done ≡ status_of answer → HasPrinted list_writes (verdict_text Sound) [] [] answer → ⊥
+unprinted_sound (Ok done) is printed = written Sound printed.done.1
+unprinted_sound (Err (Text line cause)) is printed = cc
+unprinted_sound (Err Read) is printed = cc
+unprinted_sound (Err Write) is printed = cc
+unprinted_sound (Err Memory) is printed = cc
+
+unwritten_text : (all : List ℕ) (answer : AuditAnswer) → status.Done ≡ status_of answer → HasJudgedText list_writes (Some all) [] [] answer → ⊥
+unwritten_text all (Ok sound) is judged = written judged.done.verdict judged.done.appends
+unwritten_text all (Err (Text line cause)) is judged = cc
+unwritten_text all (Err Read) is judged = cc
+unwritten_text all (Err Write) is judged = cc
+unwritten_text all (Err Memory) is judged = cc
+
+unwritten_all : (all : List ℕ) → JudgesAll list_writes [] [] all status.Done → ⊥
+unwritten_all all (inl judged) = unwritten_text judged.0 judged.2 judged.3 judged.4
+unwritten_all all (inr refused) = not_done_by refused.0 refused.2
+
+unwritten_parts : JudgesParts list_writes [] [] {F = List ℕ} Some status.Done → ⊥
+unwritten_parts (inl sound) = unprinted_sound sound.1 sound.2 sound.3
+unwritten_parts (inr (inl all)) = unwritten_all all.0 all.2
+unwritten_parts (inr (inr refused)) = not_done_by refused.0 refused.2
+
 is_done : (all old new : List ℕ) (answer : RunAnswer) → HasPrinted list_writes all old new answer → IfOk answer (λ done. done ≡ true)
 is_done all old new (Ok done) printed = printed.done.0
 is_done all old new (Err fault) printed = tt
@@ -163,6 +189,7 @@ ends_refused = record {
   empty_is_sound = λ left old new judged. texts_refused.empty (judged.text.sound refl);
   sound_is_a_fault = λ source left judged. turned judged.text.done.verdict judged.text.done.answered judged.text.done.appends;
   fault_is_sound = λ source left judged. turned_back judged.text.done.verdict judged.text.done.answered judged.text.done.appends;
+  parts_without_verdict = λ source ends. unwritten_parts ends.0;
   input_is_read = stays;
   unopened = unopened;
   unopened_script = unopened_script;

@@ -2,7 +2,7 @@
 use Rattle.std.specs.Prelude.{[], ◌∷◌, ℕ, true, false, List, Option, Some, None, Ok, Err, codes}
 use Rattle.clap.specs.declared.error.kind.ErrorKind.TheVariants.{DisplayHelp, UnknownArgument}
 use Rattle.fairexec_args.specs.declared.asked.What.{What}
-use Rattle.fairexec_args.specs.declared.asked.What.TheVariants.{Run, Threads, Audit, Journal}
+use Rattle.fairexec_args.specs.declared.asked.What.TheVariants.{Run, Threads, Audit, Parts, Journal}
 use Rattle.fairexec_script.specs.declared.fault.ThreadsFault.TheVariants.{Thread}
 use Rattle.text_bytes.specs.declared.sink.ByteSink as writing
 use Rattle.text_journal.specs.declared.fault.JournalCause.{JournalCause}
@@ -53,6 +53,8 @@ pub record EndsAreRefused : Type 0 where
   -- one verdict is written, and the other is answered
   pub sound_is_a_fault : (source left : List ℕ) → JudgedIn source left [] (codes "sound\n") (Ok false) → ⊥
   pub fault_is_sound : (source left : List ℕ) → JudgedIn source left [] (codes "fault actor 0 note 1 rule 2\n") (Ok true) → ⊥
+  -- parts are judged, and nothing is written
+  pub parts_without_verdict : (source : List ℕ) → EndsIn source source [] [] None Parts status.Done → ⊥
   -- a file is named, and the input is read
   pub input_is_read : (what : What) (old new : List ℕ) (result : Status) → EndsIn (1 ∷ []) [] old new (Some (codes "a")) what result → ⊥
   -- a file can't be opened, and all is done

@@ -7,10 +7,10 @@ use Rattle.text_parts.specs.Faults.{IfBytes, IfRead, IfUnwritten, bytes_status}
 use Rattle.text_parts.specs.Houses.{IsFault}
 use Rattle.text_parts.specs.Wholes.{MakesText}
 use Rattle.text_parts.specs.declared.fault.BytesFault.{BytesFault}
-use Rattle.text_parts.specs.declared.fault.BytesFault.TheVariants as fault
 use Rattle.text_words.specs.Faults as text
 use Rattle.text_words.specs.Statuses.{status_of}
 use Rattle.text_words.specs.declared.status.Status.{Status}
+use Rattle.fair_parts.specs.Folders.{IsUnopened}
 use Rattle.fairexec.specs.Answers.{AuditAnswer, Passed, RunAnswer, HasJudgedText, HasPrinted, file_reads}
 use Rattle.fairexec.specs.Files.{Devices}
 
@@ -26,10 +26,6 @@ module _ {R : Type 0} (source : reading.Ghosts R) (old new : R) where
     pub unread : IfRead (HasFailedSince source.tries source.interrupts source.fails old new) why
     pub unwritten : IfUnwritten ⊥ why
 
--- a file can't be opened: that is a failed read, or there is no memory
-abbrev pub IsUnopenedBytes : BytesFault → Type 0
-IsUnopenedBytes why = (why ≡ fault.Read) ⊎ (why ≡ fault.Memory)
-
 module _ {R F : Type 0} (source : reading.Ghosts R) (file : F → Option (List ℕ)) (old new : R) where
   -- the text of journals: without a file the bytes are the source's, else a file's, and the source stays
   abbrev pub HasText : Option (List ℕ) → List ℕ → Type 0
@@ -39,7 +35,7 @@ module _ {R F : Type 0} (source : reading.Ghosts R) (file : F → Option (List �
   -- there is none, in the same way
   abbrev pub HasNoText : Option (List ℕ) → BytesFault → Type 0
   HasNoText None why = TellsNone source old new why
-  HasNoText (Some path) why = (((from : F) × (to : F) × TellsNone (file_reads file) from to why) ⊎ IsUnopenedBytes why) × (new ≡ old)
+  HasNoText (Some path) why = (((from : F) × (to : F) × TellsNone (file_reads file) from to why) ⊎ IsUnopened why) × (new ≡ old)
 
 module _ {R F S : Type 0} (devices : Devices R F S) (at : Passed R S) where
   -- the journals have a text, and this is how it ends with that; or they have none, the status is that of the fault, and nothing is written

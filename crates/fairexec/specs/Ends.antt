@@ -6,7 +6,7 @@ use Rattle.fair_args.specs.Refusals.{IsReason}
 use Rattle.fair_args.specs.declared.unasked.Unasked.{Unasked}
 use Rattle.fair_args.specs.declared.unasked.Unasked.TheVariants as unasked
 use Rattle.fairexec_args.specs.declared.asked.What.{What}
-use Rattle.fairexec_args.specs.declared.asked.What.TheVariants.{Run, Threads, Audit, Journal}
+use Rattle.fairexec_args.specs.declared.asked.What.TheVariants.{Run, Threads, Audit, Parts, Journal}
 use Rattle.fairexec_script.specs.Faults.{status_of as threads_status}
 use Rattle.text_parts.specs.Faults.{bytes_status}
 use Rattle.text_words.specs.Statuses.{status_of}
@@ -15,17 +15,19 @@ use Rattle.text_words.specs.declared.status.Status.TheVariants as status
 use Rattle.fairexec.specs.Answers.{AuditAnswer, Passed, RunAnswer, ThreadsAnswer}
 use Rattle.fairexec.specs.Bytes.{JudgesBytes, PrintsText}
 use Rattle.fairexec.specs.declared.ended.Ended.{Ended}
-use Rattle.fairexec.specs.declared.ended.Ended.TheVariants.{Ran, OnThreads, Judged, NoText}
+use Rattle.fairexec.specs.declared.ended.Ended.TheVariants.{Ran, OnThreads, Judged, NoText, Differs}
 use Rattle.fairexec.specs.Files.{Devices, Judges, Runs, RunsOnThreads}
+use Rattle.fairexec.specs.Parts.{JudgesParts}
 
 module _ {R F S : Type 0} (devices : Devices R F S) (at : Passed R S) where
-  -- What is asked for is done with the file, or with the source, or with the text of the journals whose bytes are there. The status is that of an answer, which tells what was read
+  -- What is asked for is done with the file, or with the source, or with the text of the journals whose bytes are there, or with the parts in a folder. The status is that of an answer, which tells what was read
   -- and written.
   abbrev pub EndsFor : Option (List ℕ) → What → Status → Type 0
   EndsFor file (Run journal stats) result = (answer : RunAnswer) × (result ≡ status_of answer) × Runs devices at file journal stats answer
   EndsFor file (Threads journal stats) result = (answer : ThreadsAnswer) × (result ≡ threads_status answer) × RunsOnThreads devices at file journal stats answer
   EndsFor file (Audit false) result = (answer : AuditAnswer) × (result ≡ status_of answer) × Judges devices at file answer
   EndsFor file (Audit true) result = JudgesBytes devices at file result
+  EndsFor file Parts result = JudgesParts devices.sink at.sink_old at.sink_new devices.file result × (at.source_new ≡ at.source_old)
   EndsFor file Journal result = PrintsText devices at file result
 
 -- the status of what came to this
@@ -34,6 +36,7 @@ status_ended (Ran answer) = status_of answer
 status_ended (OnThreads answer) = threads_status answer
 status_ended (Judged answer) = status_of answer
 status_ended (NoText why) = bytes_status why
+status_ended (Differs actor note) = status.Memory
 
 -- the status of words that ask for nothing
 abbrev pub status_unasked : Unasked → Status

@@ -3,3 +3,4 @@ pub mod BadEnds
 pub mod Bytes
 pub mod Ends
 pub mod Files
+pub mod Parts

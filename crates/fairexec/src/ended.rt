@@ -5,6 +5,7 @@ ghost use Rattle.fairexec.specs.Ends.{status_ended};
 ghost use Rattle.fairexec_script.specs.Faults.{status_of as threads_code};
 ghost use Rattle.text_parts.specs.Faults.{bytes_status};
 ghost use Rattle.text_words.specs.Statuses.{status_of};
+ghost use Rattle.text_words.specs.declared.status.Status.TheVariants as status;
 
 use fairexec_script::{ThreadsFault, status_of as threads_status};
 use text_journal::JournalCause;
@@ -22,6 +23,8 @@ pub(crate) enum Ended {
     Judged(Result<bool, Fault<JournalCause>>),
     /// Bytes have no text, for this reason.
     NoText(BytesFault),
+    /// Parts are too many to be judged as a whole. A house writes another note than this one of the actor.
+    Differs { actor: u8, note: u64 },
 }
 
 /// Says on standard error what went wrong, if anything did. Where even that can't be said, the status is the same.
@@ -33,6 +36,7 @@ pub(crate) fn told<C: Eprint>(console: &C, ended: Ended) -> Status
         Ended::OnThreads(answer) => ran(console, answer),
         Ended::Judged(answer) => answered(console, answer),
         Ended::NoText(fault) => refused(console, fault),
+        Ended::Differs { actor, note } => differs(console, actor, note),
     }
 }
 
@@ -62,4 +66,14 @@ fn refused<C: Eprint>(console: &C, fault: BytesFault) -> Status
 {
     let _ = eprintln!(console; "{fault}");
     fault.status()
+}
+
+/// What is told of parts that differ and are too many to be judged as a whole.
+fn differs<C: Eprint>(console: &C, actor: u8, note: u64) -> Status
+    ensures { result ≡ status.Memory }
+{
+    let _ = eprintln!(console;
+        "out of memory: a house writes another note than actor {actor} note {note}"
+    );
+    Status::Memory
 }

@@ -8,6 +8,7 @@
 #![tactic(auto)]
 
 mod ended;
+mod parts;
 
 ghost use Rattle.std.specs.Prelude.{◌≡◌, ◌≢◌, Bool, true, Err, IfErr, IfOk, OnErr, OnOk, map, option_map, string_bytes};
 ghost use Rattle.std.specs.Io.KnownBytes.{Appends};
@@ -15,7 +16,7 @@ ghost use Rattle.std.specs.declared.io.ErrorKind.TheVariants as kinds;
 ghost use Rattle.clap.specs.Words.{fault_of};
 ghost use Rattle.fair_args.specs.Asks.{asks_of};
 ghost use Rattle.fairexec.specs.Answers.{HasPrinted};
-ghost use Rattle.fairexec.specs.Bytes.{HasNoText, HasText, IsUnopenedBytes, JudgesBytes, PrintsText};
+ghost use Rattle.fairexec.specs.Bytes.{HasNoText, HasText, JudgesBytes, PrintsText};
 ghost use Rattle.fairexec.specs.Ends.{EndsBy, EndsFor, status_ended, status_unasked};
 ghost use Rattle.fairexec.specs.Files.{IsUnopened, IsUnopenedScript, Judges, Runs, RunsOnThreads};
 ghost use Rattle.fairexec_args.specs.Asks.{what_named};
@@ -23,14 +24,15 @@ ghost use Rattle.fairexec_args.specs.CommandLine.{our_app};
 ghost use Rattle.fairexec_args.specs.declared.asked.What.TheVariants as whats;
 ghost use Rattle.text_bytes.specs.Tries.{HasFailedSince};
 ghost use Rattle.text_journal.specs.Pages.{AppendsFront};
-ghost use Rattle.text_parts.specs.declared.fault.BytesFault.TheVariants as bytes;
 ghost use Rattle.text_words.specs.Statuses.{fault_status};
 ghost use Rattle.fairexec_script.specs.declared.fault.ThreadsFault.TheVariants.{Of};
 ghost use Rattle.text_words.specs.declared.status.Status.TheVariants as status;
 ghost use Rattle.text_words.specs.declared.fault.Fault.TheVariants as faults;
 
 use crate::ended::{Ended, told};
+use crate::parts::audit_parts;
 use fair_args::{Console, ReadOnly, ReadOnlyFiles, Unasked, words_of};
+use fair_parts::unopened;
 use fairexec_args::{What, parse};
 use fairexec_report::audit_text;
 use fairexec_run::run_script;
@@ -109,7 +111,7 @@ where
     R: ReadOnlyFiles + AllocGlobal + Threads + Wait + Copy + Drop + Send + 'static,
     ensures ends { EndsFor (record { source = I.Source; file = R.File.remaining; sink = S.ByteSink })
         (record { source_old = input.old; source_new = input.new; sink_old = output.old; sink_new = output.new }) (option_map (λ path. path.now) file.entry) what (status_ended result) }
-    ensures never { ((bytes : Bool) → what ≢ whats.Audit bytes) → status_ended result ≢ status.FaultFound }
+    ensures never { ((bytes : Bool) → what ≢ whats.Audit bytes) → what ≢ whats.Parts → status_ended result ≢ status.FaultFound }
 {
     match what {
         What::Run { journal, stats } => Ended::Ran(run(rt, journal, stats, file, input, output)),
@@ -118,6 +120,7 @@ where
         }
         What::Audit { bytes: false } => Ended::Judged(audit(rt, file, input, output)),
         What::Audit { bytes: true } => audit_bytes(rt, file, input, output),
+        What::Parts => audit_parts(rt, file, output),
         What::Journal => journal(rt, file, input, output),
     }
 }
@@ -245,7 +248,7 @@ fn text_of<R: ReadOnlyFiles + AllocGlobal, I: Source>(
         None => text_of_parts(rt.alloc(), input),
         Some(path) => match rt.open_to_read(path) {
             Ok(mut source) => text_of_parts(rt.alloc(), &mut source),
-            Err(error) => Err(unopened_bytes(error.kind())),
+            Err(error) => Err(unopened(error.kind())),
         },
     }
 }
@@ -269,18 +272,6 @@ fn write_whole<S: ByteSink>(text: &[u8], output: &mut S) -> Result<(), DeviceFau
 {
     write_all(output, text)?;
     flush(output)
-}
-
-/// Why a file of bytes can't be opened.
-fn unopened_bytes(kind: ErrorKind) -> BytesFault
-    ensures memory { kind ≡ kinds.OutOfMemory → result ≡ bytes.Memory }
-    ensures other { kind ≢ kinds.OutOfMemory → result ≡ bytes.Read }
-    ensures either { IsUnopenedBytes result }
-{
-    match kind {
-        ErrorKind::OutOfMemory => BytesFault::Memory,
-        _ => BytesFault::Read,
-    }
 }
 
 /// Why a file can't be opened.

@@ -20,6 +20,8 @@ asked_rows = record {
   threads_both = (refl, refl);
   audit = (refl, refl);
   audit_bytes = (refl, refl);
+  parts = (refl, refl);
+  parts_as_bytes = (refl, refl);
   journal_text = (refl, refl);
 }
 
@@ -34,6 +36,7 @@ refused_rows = record {
   twice_on_threads = (refl, refl);
   flag_of_audit = (refl, refl);
   bytes_of_run = (refl, refl);
+  parts_of_journal = (refl, refl);
   no_form = (refl, refl);
   help = (refl, refl);
   help_of_run = (refl, refl);

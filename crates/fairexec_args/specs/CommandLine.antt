@@ -17,9 +17,12 @@ threads_app = with_rule (with_rule (with_rule (new_app (codes "threads"))
     (flag_rule (codes "stats")))
     file_rule
 
--- `audit [--bytes] [FILE]`
+-- `audit [--bytes] [--parts] [FILE]`
 unfoldable pub audit_app : App
-audit_app = with_rule (with_rule (new_app (codes "audit")) (flag_rule (codes "bytes"))) file_rule
+audit_app = with_rule (with_rule (with_rule (new_app (codes "audit"))
+    (flag_rule (codes "bytes")))
+    (flag_rule (codes "parts")))
+    file_rule
 
 -- a flag that has to be there, `--name`
 abbrev pub needed_flag_rule : Text → Rule

@@ -7,7 +7,7 @@ use Rattle.fair_args.specs.Asks.{asks_of}
 use Rattle.fairexec_args.specs.Asks.{what_named}
 use Rattle.fairexec_args.specs.CommandLine.{our_app}
 use Rattle.fairexec_args.specs.declared.asked.What.{What}
-use Rattle.fairexec_args.specs.declared.asked.What.TheVariants.{Run, Threads, Audit, Journal}
+use Rattle.fairexec_args.specs.declared.asked.What.TheVariants.{Run, Threads, Audit, Parts, Journal}
 
 -- the words of a command line, behind the program's name
 abbrev pub fairexec : List Text → List Text
@@ -47,6 +47,10 @@ pub record AreAsked : Type 0 where
   pub audit : IsAsked (fairexec (codes "audit" ∷ [])) (Audit false) None
   -- fairexec audit x --bytes: a flag may come behind the file here too
   pub audit_bytes : IsAsked (fairexec (codes "audit" ∷ codes "x" ∷ codes "--bytes" ∷ [])) (Audit true) (Some (codes "x"))
+  -- fairexec audit --parts journals
+  pub parts : IsAsked (fairexec (codes "audit" ∷ codes "--parts" ∷ codes "journals" ∷ [])) Parts (Some (codes "journals"))
+  -- fairexec audit --bytes --parts: parts are bytes anyway
+  pub parts_as_bytes : IsAsked (fairexec (codes "audit" ∷ codes "--bytes" ∷ codes "--parts" ∷ [])) Parts None
   -- fairexec journal --text x
   pub journal_text : IsAsked (fairexec (codes "journal" ∷ codes "--text" ∷ codes "x" ∷ [])) Journal (Some (codes "x"))
 
@@ -68,6 +72,8 @@ pub record AreRefused : Type 0 where
   pub flag_of_audit : IsRefused (fairexec (codes "audit" ∷ codes "--journal" ∷ [])) (kind.UnknownArgument ∷ [])
   -- fairexec run --bytes
   pub bytes_of_run : IsRefused (fairexec (codes "run" ∷ codes "--bytes" ∷ [])) (kind.UnknownArgument ∷ [])
+  -- fairexec journal --text --parts x
+  pub parts_of_journal : IsRefused (fairexec (codes "journal" ∷ codes "--text" ∷ codes "--parts" ∷ codes "x" ∷ [])) (kind.UnknownArgument ∷ [])
   -- fairexec journal x
   pub no_form : IsRefused (fairexec (codes "journal" ∷ codes "x" ∷ [])) (kind.MissingRequiredArgument ∷ [])
   -- fairexec --help

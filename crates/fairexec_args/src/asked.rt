@@ -4,12 +4,12 @@ ghost use Rattle.std.specs.Prelude.{◌≡◌};
 ghost use Rattle.clap.specs.Words.{found_of, rows_of};
 ghost use Rattle.fairexec_args.specs.Asks.{what_named};
 
-use crate::command::{AUDIT, BYTES, JOURNAL, STATS, THREADS, command};
+use crate::command::{AUDIT, BYTES, JOURNAL, PARTS, STATS, THREADS, command};
 use clap::{ArgMatches, Command};
 use fair_args::{Wanted, flag_is_given};
 use std::alloc::{AllocError, Global};
 
-/// What is to be done with a file.
+/// What is to be done with a file, or with a folder.
 #[derive(Clone, Copy)]
 pub enum What {
     /// Its script is run on the model. It says whether journals and statistics are printed.
@@ -18,6 +18,8 @@ pub enum What {
     Threads { journal: bool, stats: bool },
     /// Its journals are judged. It says whether they are bytes.
     Audit { bytes: bool },
+    /// The parts in a folder are judged.
+    Parts,
     /// Its journals are bytes, and their text is printed.
     Journal,
 }
@@ -50,6 +52,10 @@ fn what_of(name: &str, found: &ArgMatches<'_>) -> What
     ensures { result ≡ what_named name.now (rows_of (found_of found.now)) }
 {
     if name == AUDIT {
+        // Parts are bytes, whether or not `--bytes` says so.
+        if flag_is_given(found, PARTS) {
+            return What::Parts;
+        }
         let bytes = flag_is_given(found, BYTES);
         return What::Audit { bytes };
     }

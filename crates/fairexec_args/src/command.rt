@@ -32,6 +32,9 @@ pub const STATS: &str = "stats";
 /// The flag by which `audit` reads bytes.
 pub const BYTES: &str = "bytes";
 
+/// The flag by which `audit` reads the parts in a folder.
+pub const PARTS: &str = "parts";
+
 /// The flag by which `journal` prints a text.
 const TEXT: &str = "text";
 
@@ -86,8 +89,9 @@ Exit status:
 
 /// What follows the options in the help of `audit`.
 const AFTER_AUDIT: &str = "\
-Example:
+Examples:
   fairexec run --journal examples/fair_shares.script | fairexec audit
+  fairexec audit --parts journals
 
 The statistics of --stats behind a journal are no part of its text: audit refuses them.
 
@@ -189,7 +193,7 @@ fn threads_command<'a>(alloc: Global) -> Result<Command<'a>, AllocError>
     with_file(alloc, command, SCRIPT_HELP)
 }
 
-/// `audit [--bytes] [FILE]`
+/// `audit [--bytes] [--parts] [FILE]`
 #[tactic(auto, unfolding(crate::specs::CommandLine::audit_app))]
 fn audit_command<'a>(alloc: Global) -> Result<Command<'a>, AllocError>
     ensures app { IfOk result (λ command. app_of command ≡ spec.audit_app) }
@@ -206,6 +210,12 @@ fn audit_command<'a>(alloc: Global) -> Result<Command<'a>, AllocError>
         command,
         BYTES,
         "Reads the journals as bytes, a head and parts, in place of text",
+    )?;
+    let command = with_flag(
+        alloc,
+        command,
+        PARTS,
+        "Reads the folder FILE, or else the current one: head, part0, part1, .. side by side",
     )?;
     with_file(alloc, command, JOURNALS_HELP)
 }

@@ -1,11 +1,12 @@
 -- Which status a command line has.
-use Rattle.std.proofs.Common.{◌≡◌, ◌≢◌, ◌∷◌, [], List, ℕ, Bool, Option, Some, None, Ok, Err, inr}
+use Rattle.std.proofs.Common.{◌≡◌, ◌≢◌, ◌∷◌, [], List, ℕ, Option, Some, None, Ok, Err, inr}
 use Rattle.clap.specs.Kinds.{Kinds}
 use Rattle.fair_args.specs.Asks.{Asking}
 use Rattle.fair_args.specs.Refusals.{IsReason}
 use Rattle.fair_args.specs.declared.unasked.Unasked.{Unasked}
 use Rattle.fair_args.specs.declared.unasked.Unasked.TheVariants as unasked
 use Rattle.fairview_args.specs.Asks.{Wish}
+use Rattle.fairview_args.specs.declared.asked.Journals.{Journals}
 use Rattle.fairview_report.specs.Faults.{IfRead, status_of}
 use Rattle.fairview_report.specs.declared.fault.ViewFault.{ViewFault}
 use Rattle.fairview_report.specs.declared.fault.ViewFault.TheVariants as fault
@@ -51,9 +52,9 @@ none_found unasked.Mistake is = cc
 none_found unasked.Write is = cc
 none_found unasked.Memory is = cc
 
-module _ (shows : Bool → Option (List ℕ) → View → Status → Type 0) (same : Type 0) where
+module _ (shows : Journals → Option (List ℕ) → View → Status → Type 0) (same : Type 0) where
   -- words that ask for nothing end by why they do
-  pub ends_unasked : (faults : Kinds) (asked : Option (Asking (Wish × Bool))) (why : Unasked) (result : Status) → IsReason faults why → result ≡ status_unasked why → same → EndsBy shows same faults asked result
+  pub ends_unasked : (faults : Kinds) (asked : Option (Asking (Wish × Journals))) (why : Unasked) (result : Status) → IsReason faults why → result ≡ status_unasked why → same → EndsBy shows same faults asked result
   ends_unasked [] (Some asking) unasked.Told result reason is stays = absurd reason.1
   ends_unasked [] (Some asking) unasked.Mistake result reason is stays = absurd reason.1
   ends_unasked [] (Some asking) unasked.Write result reason is stays = absurd reason.1

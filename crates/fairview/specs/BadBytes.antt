@@ -34,7 +34,7 @@ no_house house behind is = cc
 pub no_bytes_have_a_text : (all : List ℕ) → MakesText all [] → ⊥
 no_bytes_have_a_text all makes = no_house _ _ makes.2.1.numbers
 
-not_done_by : (why : BytesFault) → status.Done ≡ bytes_status why → ⊥
+pub not_done_by : (why : BytesFault) → status.Done ≡ bytes_status why → ⊥
 not_done_by (bytes.Faulty place cause) is = cc
 not_done_by bytes.Read is = cc
 not_done_by bytes.Write is = cc

@@ -1,5 +1,5 @@
 -- Small cases of ends that no command line may have.
-use Rattle.std.specs.Prelude.{◌≡◌, ◌∷◌, [], ℕ, Bool, false, List, Option, Some, None, Ok, Err, codes}
+use Rattle.std.specs.Prelude.{◌≡◌, ◌∷◌, [], ℕ, List, Option, Some, None, Ok, Err, codes}
 use Rattle.std.proofs.Common.{inl, inr}
 use Rattle.clap.specs.Kinds.{IsAmong}
 use Rattle.clap.specs.declared.error.kind.ErrorKind.{ErrorKind}
@@ -8,6 +8,8 @@ use Rattle.fair_args.specs.declared.unasked.Unasked.{Unasked}
 use Rattle.fair_args.specs.declared.unasked.Unasked.TheVariants as unasked
 use Rattle.fair_args.specs.Refusals.{IsReason, IsTold}
 use Rattle.fairview_args.specs.Asks as wish
+use Rattle.fairview_args.specs.declared.asked.Journals.{Journals}
+use Rattle.fairview_args.specs.declared.asked.Journals.TheVariants.{Text}
 use Rattle.fairview_report.specs.declared.fault.ViewFault.TheVariants as fault
 use Rattle.fairview_report.specs.declared.view.View.{View}
 use Rattle.fairview_report.specs.declared.view.View.TheVariants.{Polls}
@@ -19,8 +21,8 @@ use Rattle.fairview.specs.Ends.{EndsBy, EndsFor, EndsUnasked, status_unasked}
 use Rattle.fairview.specs.declared.refusal.Refusal.TheVariants.{Name}
 
 -- nothing is known of what is shown
-abbrev pub Anything : Bool → Option (List ℕ) → View → Status → Type 0
-Anything bytes file view result = Unit {0}
+abbrev pub Anything : Journals → Option (List ℕ) → View → Status → Type 0
+Anything journals file view result = Unit {0}
 
 -- a list of bytes is a sink, and nothing is known of a try
 abbrev pub list_writes : writing.Ghosts (List ℕ)
@@ -48,11 +50,11 @@ pub source_is_read_too : ShowsFile (1 ∷ []) [] (Err fault.Read) → ⊥
 source_is_read_too shows = cc shows.1
 
 -- a wrong word ends as done
-pub wrong_word_is_done : EndsFor (Anything false None) (Unit {0}) (Err Name) status.Done → ⊥
+pub wrong_word_is_done : EndsFor (Anything Text None) (Unit {0}) (Err Name) status.Done → ⊥
 wrong_word_is_done ends = cc ends.0
 
 -- words that name no submission end as done
-pub no_name_is_done : EndsBy Anything (Unit {0}) [] (Some ((wish.Why None, false), None)) status.Done → ⊥
+pub no_name_is_done : EndsBy Anything (Unit {0}) [] (Some ((wish.Why None, Text), None)) status.Done → ⊥
 no_name_is_done (inl ends) = cc ends.0
 no_name_is_done (inr ends) = cc ends.0
 

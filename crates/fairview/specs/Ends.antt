@@ -1,11 +1,12 @@
 -- How a command line ends.
-use Rattle.std.specs.Prelude.{◌≡◌, ◌⊎◌, ℕ, Bool, List, [], Option, Some, Result, Ok, Err}
+use Rattle.std.specs.Prelude.{◌≡◌, ◌⊎◌, ℕ, List, [], Option, Some, Result, Ok, Err}
 use Rattle.clap.specs.Kinds.{Kinds}
 use Rattle.fair_args.specs.Asks.{Asking}
 use Rattle.fair_args.specs.Refusals.{IsReason}
 use Rattle.fair_args.specs.declared.unasked.Unasked.{Unasked}
 use Rattle.fair_args.specs.declared.unasked.Unasked.TheVariants as unasked
 use Rattle.fairview_args.specs.Asks.{Wish}
+use Rattle.fairview_args.specs.declared.asked.Journals.{Journals}
 use Rattle.fairview_report.specs.Faults.{status_of}
 use Rattle.fairview_report.specs.declared.view.View.{View}
 use Rattle.text_parts.specs.Faults.{bytes_status}
@@ -42,6 +43,6 @@ pub record EndsUnasked (faults : Kinds) (same : Type 0) (result : Status) : Type
   pub stays : same
 
 -- Faultless words end as what they ask for, and faulty ones by a fault. Memory may run out before either is known.
-abbrev pub EndsBy : (Bool → Option (List ℕ) → View → Status → Type 0) → Type 0 → Kinds → Option (Asking (Wish × Bool)) → Status → Type 0
+abbrev pub EndsBy : (Journals → Option (List ℕ) → View → Status → Type 0) → Type 0 → Kinds → Option (Asking (Wish × Journals)) → Status → Type 0
 EndsBy shows same [] (Some asking) result = EndsFor (shows asking.0.1 asking.1) same (view_asked asking.0.0) result ⊎ ((result ≡ status.Memory) × same)
 EndsBy shows same faults asked result = EndsUnasked faults same result

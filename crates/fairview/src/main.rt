@@ -11,19 +11,19 @@ ghost use Rattle.std.specs.declared.io.ErrorKind.TheVariants as kinds;
 ghost use Rattle.clap.specs.Words.{fault_of};
 ghost use Rattle.fair_args.specs.Asks.{asks_of};
 ghost use Rattle.fairview.specs.Answers.{IsUnopened, ShowsOf};
-ghost use Rattle.fairview.specs.Bytes.{EndsShown, HasNoText, HasText, IsUnopenedBytes, ShowsBytes};
+ghost use Rattle.fairview.specs.Bytes.{EndsShown, HasNoText, HasText, ShowsBytes, ShowsParts};
 ghost use Rattle.fairview.specs.Ends.{EndsBy, EndsFor, status_ended, status_unasked};
 ghost use Rattle.fairview.specs.Shows.{view_asked};
 ghost use Rattle.fairview_args.specs.Asks.{request_named, what_told};
 ghost use Rattle.fairview_args.specs.CommandLine.{our_app};
 ghost use Rattle.fairview_report.specs.declared.fault.ViewFault.TheVariants as faults;
-ghost use Rattle.text_parts.specs.declared.fault.BytesFault.TheVariants as bytes;
 ghost use Rattle.text_words.specs.declared.status.Status.TheVariants as status;
 
 use crate::ended::{Ended, told};
 use crate::words::view_of;
 use fair_args::{Console, ReadOnly, ReadOnlyFiles, Unasked, words_of};
-use fairview_args::{Request, parse};
+use fair_parts::gathered;
+use fairview_args::{Journals, Request, parse};
 use fairview_report::{View, ViewFault, view_text};
 use std::io;
 use std::io::ErrorKind;
@@ -91,13 +91,16 @@ fn done<R: ReadOnlyFiles + AllocGlobal, I: Source, S: ByteSink>(
 ) -> Ended
     ensures ends { EndsFor
         (EndsShown (record { source = I.Source; file = R.File.remaining; sink = S.ByteSink }) (record { source_old = input.old; source_new = input.new; sink_old = output.old; sink_new = output.new })
-        request.entry.bytes (option_map (λ path. path.now) file.entry))
+        request.entry.journals (option_map (λ path. path.now) file.entry))
         ((input.new ≡ input.old) × (output.new ≡ output.old)) (view_asked (what_told request.entry.what)) (status_ended result) }
     ensures never { status_ended result ≢ status.FaultFound }
 {
     match view_of(request.what) {
-        Ok(view) if request.bytes => show_bytes(rt, view, file, input, output),
-        Ok(view) => Ended::Shown(show(rt, view, file, input, output)),
+        Ok(view) => match request.journals {
+            Journals::Text => Ended::Shown(show(rt, view, file, input, output)),
+            Journals::Bytes => show_bytes(rt, view, file, input, output),
+            Journals::Parts => show_parts(rt, view, file, output),
+        },
         Err(refusal) => Ended::Word(refusal),
     }
 }
@@ -152,6 +155,22 @@ fn show_bytes<R: ReadOnlyFiles + AllocGlobal, I: Source, S: ByteSink>(
     }
 }
 
+/// Shows what is asked for of the journals whose parts are in the folder, or in the current one.
+fn show_parts<R: ReadOnlyFiles + AllocGlobal, S: ByteSink>(
+    rt: &R,
+    view: View,
+    folder: Option<&str>,
+    output: &mut S,
+) -> Ended
+    ensures shows { ShowsParts R.File.remaining S.ByteSink output.old output.new view (status_ended result) }
+    ensures never { status_ended result ≢ status.FaultFound }
+{
+    match gathered(rt, folder.unwrap_or(".")) {
+        Ok(bytes) => show_bytes(rt, view, None, &mut TextSource::of(&bytes), output),
+        Err(unread) => Ended::Bytes(unread),
+    }
+}
+
 /// The text of the journals whose bytes are in the file, or in the input.
 fn text_of<R: ReadOnlyFiles + AllocGlobal, I: Source>(
     rt: &R,
@@ -165,20 +184,8 @@ fn text_of<R: ReadOnlyFiles + AllocGlobal, I: Source>(
         None => text_of_parts(rt.alloc(), input),
         Some(path) => match rt.open_to_read(path) {
             Ok(mut source) => text_of_parts(rt.alloc(), &mut source),
-            Err(error) => Err(unopened_bytes(error.kind())),
+            Err(error) => Err(fair_parts::unopened(error.kind())),
         },
-    }
-}
-
-/// Why a file of bytes can't be opened.
-fn unopened_bytes(kind: ErrorKind) -> BytesFault
-    ensures memory { kind ≡ kinds.OutOfMemory → result ≡ bytes.Memory }
-    ensures other { kind ≢ kinds.OutOfMemory → result ≡ bytes.Read }
-    ensures either { IsUnopenedBytes result }
-{
-    match kind {
-        ErrorKind::OutOfMemory => BytesFault::Memory,
-        _ => BytesFault::Read,
     }
 }
 

@@ -29,6 +29,13 @@ asked_rows = record {
   csv_bytes = (refl, refl);
   lag_bytes = (refl, refl);
   trace_bytes = (refl, refl);
+  wait_parts = (refl, refl);
+  why_parts = (refl, refl);
+  gantt_parts = (refl, refl);
+  share_parts = (refl, refl);
+  csv_parts = (refl, refl);
+  lag_parts = (refl, refl);
+  trace_parts = (refl, refl);
 }
 
 pub refused_rows : AreRefused
@@ -38,6 +45,7 @@ refused_rows = record {
   unknown = (refl, refl);
   two_files = (refl, refl);
   twice = (refl, refl);
+  twice_of_parts = (refl, refl);
   flag_of_share = (refl, refl);
   no_name = (refl, refl);
   no_value = (refl, refl);

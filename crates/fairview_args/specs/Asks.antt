@@ -5,6 +5,8 @@ use Rattle.clap.specs.Words.{Row, Text}
 use Rattle.clap.specs.Walk.{first_of}
 use Rattle.fair_args.specs.Asks.{Wishes}
 use Rattle.fair_args.specs.Found.{is_given}
+use Rattle.fairview_args.specs.declared.asked.Journals.{Journals}
+use Rattle.fairview_args.specs.declared.asked.Journals.TheVariants as journals
 use Rattle.fairview_args.specs.declared.asked.Request.{Request}
 use Rattle.fairview_args.specs.declared.asked.What.{What}
 use Rattle.fairview_args.specs.declared.asked.What.TheVariants as what
@@ -43,9 +45,13 @@ what_told (what.Gantt core from to) = Gantt (option_map (λ word. word.now) core
 what_told (what.Lag text) = Lag text
 what_told what.Trace = Trace
 
--- what is to be printed of journals, and whether these are bytes
-abbrev pub request_named : Wishes (Wish × Bool)
-request_named name rows = (what_named name rows, is_given (codes "bytes") rows)
+-- as what journals are read: by `--parts` as the parts in a folder, else by `--bytes` as bytes, else as a text
+abbrev pub journals_given : List Row → Journals
+journals_given rows = if is_given (codes "parts") rows then journals.Parts else (if is_given (codes "bytes") rows then journals.Bytes else journals.Text)
 
-abbrev pub request_told : Request → Wish × Bool
-request_told request = (what_told request.what, request.bytes)
+-- what is to be printed of journals, and as what these are read
+abbrev pub request_named : Wishes (Wish × Journals)
+request_named name rows = (what_named name rows, journals_given rows)
+
+abbrev pub request_told : Request → Wish × Journals
+request_told request = (what_told request.what, request.journals)

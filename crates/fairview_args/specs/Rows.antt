@@ -1,22 +1,25 @@
 -- Command lines, and what each asks for or why it is refused.
-use Rattle.std.specs.Prelude.{◌≡◌, [], ◌∷◌, Bool, true, false, List, Option, Some, None, codes}
+use Rattle.std.specs.Prelude.{◌≡◌, [], ◌∷◌, true, false, List, Option, Some, None, codes}
 use Rattle.clap.specs.Words.{Text, fault_of, takes}
 use Rattle.clap.specs.Kinds.{Kinds}
 use Rattle.clap.specs.declared.error.kind.ErrorKind.TheVariants as kind
 use Rattle.fair_args.specs.Asks.{asks_of}
 use Rattle.fairview_args.specs.Asks.{Wish, Wait, Share, Why, Csv, Gantt, Lag, Trace, request_named}
 use Rattle.fairview_args.specs.CommandLine.{our_app}
+use Rattle.fairview_args.specs.declared.asked.Journals.{Journals}
+use Rattle.fairview_args.specs.declared.asked.Journals.TheVariants.{Bytes, Parts}
+use Rattle.fairview_args.specs.declared.asked.Journals.TheVariants as journals
 
 -- the words of a command line, behind the program's name
 abbrev pub fairview : List Text → List Text
 fairview words = codes "fairview" ∷ words
 
--- the words are taken, and ask for this, of bytes or of text
-abbrev pub IsAskedOf : Bool → List Text → Wish → Option Text → Type 0
-IsAskedOf bytes words wish file = (takes our_app words ≡ true) × (asks_of request_named our_app words ≡ Some ((wish, bytes), file))
+-- the words are taken, and ask for this, of journals that are read so
+abbrev pub IsAskedOf : Journals → List Text → Wish → Option Text → Type 0
+IsAskedOf journals words wish file = (takes our_app words ≡ true) × (asks_of request_named our_app words ≡ Some ((wish, journals), file))
 
 abbrev pub IsAsked : List Text → Wish → Option Text → Type 0
-IsAsked words wish file = IsAskedOf false words wish file
+IsAsked words wish file = IsAskedOf journals.Text words wish file
 
 -- the words are not taken, and have one of these faults
 abbrev pub IsRefused : List Text → Kinds → Type 0
@@ -53,15 +56,25 @@ pub record AreAsked : Type 0 where
   -- fairview trace x
   pub trace : IsAsked (fairview (codes "trace" ∷ codes "x" ∷ [])) Trace (Some (codes "x"))
   -- fairview wait --bytes x
-  pub wait_bytes : IsAskedOf true (fairview (codes "wait" ∷ codes "--bytes" ∷ codes "x" ∷ [])) (Wait false) (Some (codes "x"))
+  pub wait_bytes : IsAskedOf Bytes (fairview (codes "wait" ∷ codes "--bytes" ∷ codes "x" ∷ [])) (Wait false) (Some (codes "x"))
   -- fairview why --bytes 0>1#2: the flag may come before the name
-  pub why_bytes : IsAskedOf true (fairview (codes "why" ∷ codes "--bytes" ∷ codes "0>1#2" ∷ [])) (Why (Some (codes "0>1#2"))) None
+  pub why_bytes : IsAskedOf Bytes (fairview (codes "why" ∷ codes "--bytes" ∷ codes "0>1#2" ∷ [])) (Why (Some (codes "0>1#2"))) None
   -- fairview gantt --bytes --core 1, and the others behind their own flags
-  pub gantt_bytes : IsAskedOf true (fairview (codes "gantt" ∷ codes "--bytes" ∷ codes "--core" ∷ codes "1" ∷ [])) (Gantt (Some (codes "1")) None None) None
-  pub share_bytes : IsAskedOf true (fairview (codes "share" ∷ codes "--csv" ∷ codes "--bytes" ∷ [])) (Share false true) None
-  pub csv_bytes : IsAskedOf true (fairview (codes "csv" ∷ codes "--bytes" ∷ [])) Csv None
-  pub lag_bytes : IsAskedOf true (fairview (codes "lag" ∷ codes "--text" ∷ codes "--bytes" ∷ [])) (Lag true) None
-  pub trace_bytes : IsAskedOf true (fairview (codes "trace" ∷ codes "--bytes" ∷ [])) Trace None
+  pub gantt_bytes : IsAskedOf Bytes (fairview (codes "gantt" ∷ codes "--bytes" ∷ codes "--core" ∷ codes "1" ∷ [])) (Gantt (Some (codes "1")) None None) None
+  pub share_bytes : IsAskedOf Bytes (fairview (codes "share" ∷ codes "--csv" ∷ codes "--bytes" ∷ [])) (Share false true) None
+  pub csv_bytes : IsAskedOf Bytes (fairview (codes "csv" ∷ codes "--bytes" ∷ [])) Csv None
+  pub lag_bytes : IsAskedOf Bytes (fairview (codes "lag" ∷ codes "--text" ∷ codes "--bytes" ∷ [])) (Lag true) None
+  pub trace_bytes : IsAskedOf Bytes (fairview (codes "trace" ∷ codes "--bytes" ∷ [])) Trace None
+  -- fairview wait --parts journals
+  pub wait_parts : IsAskedOf Parts (fairview (codes "wait" ∷ codes "--parts" ∷ codes "journals" ∷ [])) (Wait false) (Some (codes "journals"))
+  -- fairview why 0>1#2 --parts --bytes: parts are bytes anyway
+  pub why_parts : IsAskedOf Parts (fairview (codes "why" ∷ codes "0>1#2" ∷ codes "--parts" ∷ codes "--bytes" ∷ [])) (Why (Some (codes "0>1#2"))) None
+  -- fairview gantt --bytes --parts --to 9, and the others behind their own flags
+  pub gantt_parts : IsAskedOf Parts (fairview (codes "gantt" ∷ codes "--bytes" ∷ codes "--parts" ∷ codes "--to" ∷ codes "9" ∷ [])) (Gantt None None (Some (codes "9"))) None
+  pub share_parts : IsAskedOf Parts (fairview (codes "share" ∷ codes "--csv" ∷ codes "--parts" ∷ [])) (Share false true) None
+  pub csv_parts : IsAskedOf Parts (fairview (codes "csv" ∷ codes "--parts" ∷ [])) Csv None
+  pub lag_parts : IsAskedOf Parts (fairview (codes "lag" ∷ codes "--text" ∷ codes "--parts" ∷ [])) (Lag true) None
+  pub trace_parts : IsAskedOf Parts (fairview (codes "trace" ∷ codes "--parts" ∷ codes "x" ∷ [])) Trace (Some (codes "x"))
 
 -- command lines that are not taken
 pub record AreRefused : Type 0 where
@@ -73,6 +86,8 @@ pub record AreRefused : Type 0 where
   pub two_files : IsRefused (fairview (codes "wait" ∷ codes "a" ∷ codes "b" ∷ [])) (kind.UnknownArgument ∷ [])
   -- fairview share --csv --csv
   pub twice : IsRefused (fairview (codes "share" ∷ codes "--csv" ∷ codes "--csv" ∷ [])) (kind.ArgumentConflict ∷ [])
+  -- fairview trace --parts --parts
+  pub twice_of_parts : IsRefused (fairview (codes "trace" ∷ codes "--parts" ∷ codes "--parts" ∷ [])) (kind.ArgumentConflict ∷ [])
   -- fairview wait --csv
   pub flag_of_share : IsRefused (fairview (codes "wait" ∷ codes "--csv" ∷ [])) (kind.UnknownArgument ∷ [])
   -- fairview why

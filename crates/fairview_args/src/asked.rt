@@ -2,10 +2,11 @@
 
 ghost use Rattle.std.specs.Prelude.{◌≡◌};
 ghost use Rattle.clap.specs.Words.{found_of, rows_of};
-ghost use Rattle.fairview_args.specs.Asks.{gantt_named, what_named, what_told};
+ghost use Rattle.fairview_args.specs.Asks.{gantt_named, journals_given, what_named, what_told};
 
 use crate::command::{
-    BYTES, CORE, CSV, FROM, GANTT, LAG, NAME, PLAIN, SHARE, TEXT, TO, TRACE, WAIT, WHY, command,
+    BYTES, CORE, CSV, FROM, GANTT, LAG, NAME, PARTS, PLAIN, SHARE, TEXT, TO, TRACE, WAIT, WHY,
+    command,
 };
 use clap::{ArgMatches, Command};
 use fair_args::{Wanted, flag_is_given, word_of};
@@ -43,20 +44,31 @@ pub enum What<'a> {
     Trace,
 }
 
-/// What is to be printed of journals, and whether these are bytes.
+/// As what journals are read.
+#[derive(Clone, Copy)]
+pub enum Journals {
+    /// As the text in a file.
+    Text,
+    /// As the bytes in a file.
+    Bytes,
+    /// As the parts in a folder.
+    Parts,
+}
+
+/// What is to be printed of journals, and as what these are read.
 #[derive(Clone, Copy)]
 pub struct Request<'a> {
     pub what: What<'a>,
-    pub bytes: bool,
+    pub journals: Journals,
 }
 
 /// What the subcommands of the program want.
 impl<'a> Wanted<'a> for Request<'a> {
-    ghost use Rattle.std.specs.Prelude.{Bool};
     ghost use Rattle.fairview_args.specs.Asks.{Wish, request_named, request_told};
     ghost use Rattle.fairview_args.specs.CommandLine.{our_app};
+    ghost use Rattle.fairview_args.specs.declared.asked.Journals.{Journals};
 
-    ghost Wish = { Wish × Bool };
+    ghost Wish = { Wish × Journals };
 
     ghost app = { our_app };
 
@@ -71,7 +83,7 @@ impl<'a> Wanted<'a> for Request<'a> {
     fn wanted(name: &str, found: &ArgMatches<'a>) -> Request<'a> {
         Request {
             what: what_of(name, found),
-            bytes: flag_is_given(found, BYTES),
+            journals: journals_of(found),
         }
     }
 }
@@ -104,6 +116,19 @@ fn what_of<'a>(name: &str, found: &ArgMatches<'a>) -> What<'a>
         return What::Trace;
     }
     What::Csv
+}
+
+/// As what the journals are read. Parts are bytes, whether or not `--bytes` says so.
+fn journals_of(found: &ArgMatches<'_>) -> Journals
+    ensures { result ≡ journals_given (rows_of (found_of found.now)) }
+{
+    if flag_is_given(found, PARTS) {
+        return Journals::Parts;
+    }
+    if flag_is_given(found, BYTES) {
+        return Journals::Bytes;
+    }
+    Journals::Text
 }
 
 /// What is drawn of the run.

@@ -55,6 +55,12 @@ pub const BYTES: &str = "bytes";
 /// What that flag does.
 const BYTES_HELP: &str = "Reads the journals as bytes, a head and parts, in place of text";
 
+/// The flag by which the parts in a folder are read.
+pub const PARTS: &str = "parts";
+
+/// What that flag does.
+const PARTS_HELP: &str = "Reads the folder FILE, or else the current one: head, part0, part1, ..";
+
 /// What FILE is.
 const FILE_HELP: &str = "The journals; without it, standard input is read";
 
@@ -127,6 +133,7 @@ Perfetto (ui.perfetto.dev) and chrome://tracing open the trace: a process for ea
 and arrows that follow each submission.";
 
 /// The commands and arguments of the program, with their help.
+#[tactic(auto, unfolding(crate::specs::CommandLine::our_app, crate::specs::CommandLine::trace_app))]
 pub fn command<'a>(alloc: Global) -> Result<Command<'a>, AllocError>
     ensures app { IfOk result (λ command. app_of command ≡ spec.our_app) }
     ensures whole { IfOk result (λ command. is_broken command ≡ false) }
@@ -137,6 +144,7 @@ pub fn command<'a>(alloc: Global) -> Result<Command<'a>, AllocError>
 }
 
 /// The program with the commands that print text, and those that draw.
+#[tactic(auto, unfolding(crate::specs::CommandLine::with_pictures, crate::specs::CommandLine::gantt_app, crate::specs::CommandLine::lag_app))]
 fn with_pictures<'a>(alloc: Global) -> Result<Command<'a>, AllocError>
     ensures app { IfOk result (λ command. app_of command ≡ spec.with_pictures) }
     ensures whole { IfOk result (λ command. is_broken command ≡ false) }
@@ -149,6 +157,7 @@ fn with_pictures<'a>(alloc: Global) -> Result<Command<'a>, AllocError>
 }
 
 /// The program with the commands that print text.
+#[tactic(auto, unfolding(crate::specs::CommandLine::with_rows, crate::specs::CommandLine::why_app, crate::specs::CommandLine::csv_app))]
 fn with_rows<'a>(alloc: Global) -> Result<Command<'a>, AllocError>
     ensures app { IfOk result (λ command. app_of command ≡ spec.with_rows) }
     ensures whole { IfOk result (λ command. is_broken command ≡ false) }
@@ -161,6 +170,7 @@ fn with_rows<'a>(alloc: Global) -> Result<Command<'a>, AllocError>
 }
 
 /// The program with the two commands that print tables.
+#[tactic(auto, unfolding(crate::specs::CommandLine::with_tables, crate::specs::CommandLine::wait_app, crate::specs::CommandLine::share_app))]
 fn with_tables<'a>(alloc: Global) -> Result<Command<'a>, AllocError>
     ensures app { IfOk result (λ command. app_of command ≡ spec.with_tables) }
     ensures whole { IfOk result (λ command. is_broken command ≡ false) }
@@ -177,7 +187,8 @@ fn with_tables<'a>(alloc: Global) -> Result<Command<'a>, AllocError>
     with_command(with_wait, share)
 }
 
-/// `wait [--plain] [--bytes] [FILE]`
+/// `wait [--plain] [--bytes] [--parts] [FILE]`
+#[tactic(auto, unfolding(crate::specs::CommandLine::wait_app))]
 fn wait_command<'a>(alloc: Global) -> Result<Command<'a>, AllocError>
     ensures app { IfOk result (λ command. app_of command ≡ spec.wait_app) }
     ensures whole { IfOk result (λ command. is_broken command ≡ false) }
@@ -190,10 +201,12 @@ fn wait_command<'a>(alloc: Global) -> Result<Command<'a>, AllocError>
     );
     let command = with_flag(alloc, command, PLAIN, "Draws the bars in ASCII")?;
     let command = with_flag(alloc, command, BYTES, BYTES_HELP)?;
+    let command = with_flag(alloc, command, PARTS, PARTS_HELP)?;
     with_file(alloc, command, FILE_HELP)
 }
 
-/// `share [--plain] [--csv] [--bytes] [FILE]`
+/// `share [--plain] [--csv] [--bytes] [--parts] [FILE]`
+#[tactic(auto, unfolding(crate::specs::CommandLine::share_app))]
 fn share_command<'a>(alloc: Global) -> Result<Command<'a>, AllocError>
     ensures app { IfOk result (λ command. app_of command ≡ spec.share_app) }
     ensures whole { IfOk result (λ command. is_broken command ≡ false) }
@@ -207,10 +220,12 @@ fn share_command<'a>(alloc: Global) -> Result<Command<'a>, AllocError>
     let command = with_flag(alloc, command, PLAIN, "Draws the bars in ASCII")?;
     let command = with_flag(alloc, command, CSV, "Prints rows with commas and no bars")?;
     let command = with_flag(alloc, command, BYTES, BYTES_HELP)?;
+    let command = with_flag(alloc, command, PARTS, PARTS_HELP)?;
     with_file(alloc, command, FILE_HELP)
 }
 
-/// `why [--bytes] NAME [FILE]`
+/// `why [--bytes] [--parts] NAME [FILE]`
+#[tactic(auto, unfolding(crate::specs::CommandLine::why_app))]
 fn why_command<'a>(alloc: Global) -> Result<Command<'a>, AllocError>
     ensures app { IfOk result (λ command. app_of command ≡ spec.why_app) }
     ensures whole { IfOk result (λ command. is_broken command ≡ false) }
@@ -228,10 +243,12 @@ fn why_command<'a>(alloc: Global) -> Result<Command<'a>, AllocError>
         "The name of a submission: sender, receiver and number, as '0>1#2'",
     )?;
     let command = with_flag(alloc, command, BYTES, BYTES_HELP)?;
+    let command = with_flag(alloc, command, PARTS, PARTS_HELP)?;
     with_file(alloc, command, FILE_HELP)
 }
 
-/// `csv [--bytes] [FILE]`
+/// `csv [--bytes] [--parts] [FILE]`
+#[tactic(auto, unfolding(crate::specs::CommandLine::csv_app))]
 fn csv_command<'a>(alloc: Global) -> Result<Command<'a>, AllocError>
     ensures app { IfOk result (λ command. app_of command ≡ spec.csv_app) }
     ensures whole { IfOk result (λ command. is_broken command ≡ false) }
@@ -243,10 +260,12 @@ fn csv_command<'a>(alloc: Global) -> Result<Command<'a>, AllocError>
         AFTER_CSV,
     );
     let command = with_flag(alloc, command, BYTES, BYTES_HELP)?;
+    let command = with_flag(alloc, command, PARTS, PARTS_HELP)?;
     with_file(alloc, command, FILE_HELP)
 }
 
-/// `gantt [--core D] [--from N] [--to N] [--bytes] [FILE]`
+/// `gantt [--core D] [--from N] [--to N] [--bytes] [--parts] [FILE]`
+#[tactic(auto, unfolding(crate::specs::CommandLine::gantt_app))]
 fn gantt_command<'a>(alloc: Global) -> Result<Command<'a>, AllocError>
     ensures app { IfOk result (λ command. app_of command ≡ spec.gantt_app) }
     ensures whole { IfOk result (λ command. is_broken command ≡ false) }
@@ -267,10 +286,12 @@ fn gantt_command<'a>(alloc: Global) -> Result<Command<'a>, AllocError>
     let command = with_option(alloc, command, FROM, "N", "The first turn that is drawn")?;
     let command = with_option(alloc, command, TO, "N", "The last turn that is drawn")?;
     let command = with_flag(alloc, command, BYTES, BYTES_HELP)?;
+    let command = with_flag(alloc, command, PARTS, PARTS_HELP)?;
     with_file(alloc, command, FILE_HELP)
 }
 
-/// `lag [--text] [--bytes] [FILE]`
+/// `lag [--text] [--bytes] [--parts] [FILE]`
+#[tactic(auto, unfolding(crate::specs::CommandLine::lag_app))]
 fn lag_command<'a>(alloc: Global) -> Result<Command<'a>, AllocError>
     ensures app { IfOk result (λ command. app_of command ≡ spec.lag_app) }
     ensures whole { IfOk result (λ command. is_broken command ≡ false) }
@@ -288,10 +309,12 @@ fn lag_command<'a>(alloc: Global) -> Result<Command<'a>, AllocError>
         "Prints a line for each pair of queues, and no picture",
     )?;
     let command = with_flag(alloc, command, BYTES, BYTES_HELP)?;
+    let command = with_flag(alloc, command, PARTS, PARTS_HELP)?;
     with_file(alloc, command, FILE_HELP)
 }
 
-/// `trace [--bytes] [FILE]`
+/// `trace [--bytes] [--parts] [FILE]`
+#[tactic(auto, unfolding(crate::specs::CommandLine::trace_app))]
 fn trace_command<'a>(alloc: Global) -> Result<Command<'a>, AllocError>
     ensures app { IfOk result (λ command. app_of command ≡ spec.trace_app) }
     ensures whole { IfOk result (λ command. is_broken command ≡ false) }
@@ -303,5 +326,6 @@ fn trace_command<'a>(alloc: Global) -> Result<Command<'a>, AllocError>
         AFTER_TRACE,
     );
     let command = with_flag(alloc, command, BYTES, BYTES_HELP)?;
+    let command = with_flag(alloc, command, PARTS, PARTS_HELP)?;
     with_file(alloc, command, FILE_HELP)
 }

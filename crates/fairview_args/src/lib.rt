@@ -5,5 +5,5 @@ mod asked;
 mod command;
 pub mod laws;
 
-pub use asked::{Request, What};
+pub use asked::{Journals, Request, What};
 pub use fair_args::parse;

@@ -1,6 +1,7 @@
 mod Asked
 mod Begun
 mod Kept
+mod Openings
 mod Passed
 mod TakenOut
 mod Turned

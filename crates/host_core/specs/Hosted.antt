@@ -1,6 +1,7 @@
 -- A core beside its ends, and the job of it that the host runs.
-use Rattle.std.specs.Prelude.{◌≡◌, ℕ, ◌+◌, ◌≤◌, false, Option, Some, None, length, is_some}
+use Rattle.std.specs.Prelude.{◌≡◌, ℕ, ◌+◌, ◌≤◌, false, Option, Some, None, [], length, is_some}
 use Rattle.base_words.specs.Bursts.{queue_in_turn}
+use Rattle.base_words.specs.Commands.{IsOpening}
 use Rattle.base_words.specs.Work.{number_if}
 use Rattle.core_core.specs.State.{JobOut}
 use Rattle.actor_core.specs.Recorded.{RecordedView, IsRecorded}
@@ -28,6 +29,12 @@ kept_free view = number_if (is_some view.core.out)
 -- there is room for so many notes beside those
 abbrev pub HasRoom : ℕ → RecordedView HostJob ℕ → Type 0
 HasRoom count view = length view.journal.notes + kept_free view + count ≤ view.journal.room
+
+-- nothing was noted but creations at the opening, all of them are kept, and there is room for one more
+pub record MayCreate (view : RecordedView HostJob ℕ) : Type 0 where
+  pub none_passed : view.journal.passed ≡ []
+  pub opening : IsOpening view.journal.notes
+  pub room : HasRoom 1 view
 
 -- the core is recorded, its ends are what its journal says of them, and a job that is out can be settled
 pub record IsHosted (view : HostedView) : Type 0 where

@@ -3,7 +3,7 @@ use Rattle.std.specs.Prelude.{◌≡◌, ℕ, ◌<◌, ◌≤◌, Bool, None, Is
 use Rattle.base_words.specs.Closing.{core_mode, final_count}
 use Rattle.base_words.specs.declared.order.Mode.{Mode}
 use Rattle.actor_core.specs.Steps.{ClosesItself}
-use Rattle.actor_seat.specs.Steps.{DeliversFrom, CollectsOf, ShutsGate}
+use Rattle.actor_seat.specs.Steps.{DeliversFrom, CollectsOf, CollectsOne, ShutsGate}
 use Rattle.host_core.specs.declared.answers.Refusal.{Refusal}
 use Rattle.host_core.specs.declared.answers.Refusal.TheVariants as refusal
 use Rattle.host_core.specs.Hosted.{HostedView, HasRoom}
@@ -21,6 +21,13 @@ Collects core old (Ok count) new = CollectsOf core old count new
 Collects core old (Err refusal.NoCore) new = (old.recorded.core.cores ≤ core) × (new ≡ old)
 Collects core old (Err refusal.JournalFull) new = (core < old.recorded.core.cores) × (HasRoom old.recorded.cap old.recorded → ⊥) × (new ≡ old)
 Collects core old (Err other) new = ⊥
+
+-- the next outcome that the link to a core shows is collected, if there is one; or there is no such core, or too little room for as many as a link holds
+abbrev pub CollectsNext : ℕ → HostedView → Result Bool Refusal → HostedView → Type 0
+CollectsNext core old (Ok found) new = CollectsOne core old found new
+CollectsNext core old (Err refusal.NoCore) new = (old.recorded.core.cores ≤ core) × (new ≡ old)
+CollectsNext core old (Err refusal.JournalFull) new = (core < old.recorded.core.cores) × (HasRoom old.recorded.cap old.recorded → ⊥) × (new ≡ old)
+CollectsNext core old (Err other) new = ⊥
 
 -- the gate of a sender is shut, in a core that is closed; or there is no such sender, the core isn't closed, the gate was shut before, or there is too little room
 abbrev pub Shuts : ℕ → HostedView → Result (Unit {0}) Refusal → HostedView → Type 0

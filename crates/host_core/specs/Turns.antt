@@ -1,5 +1,5 @@
 -- How the host runs jobs: the core tells the next one, and settles its run.
-use Rattle.std.specs.Prelude.{◌≡◌, ◌⊎◌, ℕ, Some, None, IsSome, Result, Ok, Err, OnErr}
+use Rattle.std.specs.Prelude.{◌≡◌, ◌⊎◌, ℕ, Option, Some, None, IsSome, Result, Ok, Err, OnErr}
 use Rattle.base_words.specs.Bursts.{queue_in_turn}
 use Rattle.base_jobs.specs.declared.job.Step.{Step}
 use Rattle.base_jobs.specs.Steps.{AfterPoll}
@@ -8,7 +8,8 @@ use Rattle.core_core.specs.declared.turn.PickError.{PickError}
 use Rattle.core_core.specs.declared.turn.Settled.{Settled}
 use Rattle.core_core.specs.Answers.{IsReadyTurn}
 use Rattle.actor_core.specs.Recorded.{RecordedView}
-use Rattle.actor_core.specs.Turns.{EndsTurn, Follows, Picks, Settles}
+use Rattle.actor_core.specs.Turns.{EndsTurn, Picks, Settles}
+use Rattle.actor_core.specs.Turns as turns
 use Rattle.actor_seat.specs.Linked.{StaysLinked}
 use Rattle.actor_seat.specs.Seats.{IsSeated, taken_of}
 use Rattle.host_core.specs.declared.answers.Picked.{Picked}
@@ -33,7 +34,7 @@ EndsIfOpen old over = ((queue_in_turn old.core.bursts.burst old.journal.notes �
 
 -- the open turn goes on with the first job of its queue
 abbrev pub GoesOn : RecordedView HostJob ℕ → Turned → RecordedView HostJob ℕ → Type 0
-GoesOn old (Ok turn) new = Follows old (Some turn) new
+GoesOn old (Ok turn) new = turns.Follows old (Some turn) new
 GoesOn old (Err error) new = ⊥
 
 -- the open turn goes on, or there is a pick once no turn is open
@@ -63,6 +64,18 @@ Nexts old told new =
     (IsSome old.recorded.core.out × (told ≡ Err refusal.Busy) × (new ≡ old))
     ⊎ ((old.recorded.core.out ≡ None) × (HasRoom 4 old.recorded → ⊥) × (told ≡ Err refusal.JournalFull) × (new ≡ old))
     ⊎ ((old.recorded.core.out ≡ None) × HasRoom 4 old.recorded × Goes old told new)
+
+-- the open turn goes on, and this is told of it; or no turn is open: none was, or the open one may not go on and has ended
+abbrev pub GoesFurther : RecordedView HostJob ℕ → Option Picked → RecordedView HostJob ℕ → Type 0
+GoesFurther old (Some picked) new = (turn : Turn HostJob) × (told_of (Ok turn) ≡ Ok picked) × GoesOn old (Ok turn) new
+GoesFurther old None new = EndsIfOpen old new
+
+-- a job is out, the journal has too little room, or the open turn goes on or ends
+abbrev pub Follows : HostedView → Result (Option Picked) Refusal → HostedView → Type 0
+Follows old (Ok told) new = GoesFurther old.recorded told new.recorded × (new.ends ≡ old.ends)
+Follows old (Err refusal.Busy) new = IsSome old.recorded.core.out × (new ≡ old)
+Follows old (Err refusal.JournalFull) new = (old.recorded.core.out ≡ None) × (HasRoom 4 old.recorded → ⊥) × (new ≡ old)
+Follows old (Err other) new = ⊥
 
 -- the run of the job that is out came to this step, and took so many nanoseconds
 pub record SettlesRun (old : HostedView) (step : Step ℕ) (spent : ℕ) (settled : Settled ℕ) (new : HostedView) : Type 0 where

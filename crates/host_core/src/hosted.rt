@@ -1,35 +1,38 @@
 //! A core whose jobs the host runs, over its actor's ends of the links.
+//!
+//! Between two calls either a job is out, which the host runs, or none is: `next` takes one out, `settle` takes its step. A call that writes notes
+//! asks first that as many are free, beside the one that settles the job which is out. So that job can always be settled.
 
-ghost use Rattle.std.specs.Prelude.{◌≡◌, ◌≢◌, ◌+◌, ◌*◌, ◌^◌, ◌<◌, ◌≤◌, ◌↔◌, [], IfErr, IfOk, IsSome, IsTrue, length};
+ghost use Rattle.std.specs.Prelude.{◌≡◌, ◌≢◌, ◌+◌, ◌*◌, ◌^◌, ◌<◌, ◌≤◌, ◌↔◌, [], IsSome, IsTrue, length};
 ghost use Rattle.arrayvec.specs.ArrayVec.{array_vec_len};
 ghost use Rattle.base_words.specs.Closing.{IsDrained};
 ghost use Rattle.core_queues.specs.Queues.{queue_count};
 ghost use Rattle.actor_core.specs.Stats.{TellsCore, TellsQueues};
 ghost use Rattle.actor_seat.specs.Linked.{StaysLinked};
-ghost use Rattle.actor_seat.specs.Opening.{AreEndsOf, IsOpenedOver};
 ghost use Rattle.host_core.specs.Hosted.{HasRoom, IsAtRest, IsHosted};
-ghost use Rattle.host_core.specs.Links.{Closes, Collects, Hears, Shuts};
+ghost use Rattle.host_core.specs.Links.{Closes, Collects, CollectsNext, Hears, Shuts};
 ghost use Rattle.host_core.specs.Passing.{Forgets, HandsOn};
 ghost use Rattle.host_core.specs.Submissions.{Detaches, Posts, Redeems, order_of_host};
-ghost use Rattle.host_core.specs.Turns.{Nexts, SettlesStep};
+ghost use Rattle.host_core.specs.Turns.{Follows, Nexts, SettlesStep};
 
 use crate::answers::{Picked, Refusal};
 use crate::job::HostJob;
 use crate::passing::{forget, hand_on};
 use crate::told::{host_order, told_detached, told_redeemed, told_sent};
-use crate::turns::{Run, go_on};
+use crate::turns::{Run, go_further, go_on};
 use crate::word::poll_told;
-use actor_core::{Recorded, RunningJournal, told_stats_within};
+use actor_core::{RunningJournal, told_stats_within};
 use actor_seat::Seat;
 use arrayvec::ArrayVec;
 use base_jobs::Step;
 use base_words::{ActorNo, CoreNo, CoreStats, Mode, Order, Outcome, QueueStats, Ticket};
 use core_core::Settled;
 use host_text::PassError;
-use link_ring::Ends;
 use note_journal::Discard;
-use std::alloc::{AllocError, Global};
+use std::alloc::Global;
 use std::marker::Model;
+
+mod opening;
 
 /// The notes that a turn may take: the end of the one before, a pick with its note, and the settling.
 const TURN_NOTES: u16 = 4;
@@ -58,30 +61,6 @@ impl Model for Hosted {
 }
 
 impl Hosted {
-    /// Opens the core that has these ends, with queue 0 alone. It writes to the memory of all notes, so that no turn is the first to touch a page of them.
-    pub fn open(
-        alloc: Global,
-        ends: Ends<HostJob>,
-        cores: u8,
-        cap: u16,
-        burst: u8,
-        room: u32,
-    ) -> Result<Self, AllocError>
-        requires { AreEndsOf cores cap ends }
-        ensures { IfOk result (λ hosted. IsOpenedOver cores cap burst room ends hosted) }
-    {
-        let number = ends.number;
-        let core = CoreNo(number.0);
-        let mut recorded = Recorded::open_burst(alloc, alloc, core, cores, cap, burst, room)?;
-        recorded.prefault();
-        Ok(Hosted {
-            cores,
-            seat: Seat::of(recorded, ends),
-            run: None,
-            passed: Discard::new(),
-        })
-    }
-
     /// The number of the core.
     pub fn number(&self) -> CoreNo
         ensures { result ≡ self.now.recorded.core.core }
@@ -124,6 +103,27 @@ impl Hosted {
         let (told, run) = go_on(&mut self.seat);
         self.run = run;
         told
+    }
+
+    /// Goes on with the open turn: a job goes out for the host to run it. If the turn may not go on, it ends. None where no turn is open then.
+    ///
+    /// # Errors
+    ///
+    /// `Busy` and `JournalFull`, as `next`.
+    pub fn follow(&mut self) -> Result<Option<Picked>, Refusal>
+        ensures follows { Follows self.old result self.new }
+        ensures stays { StaysLinked self.old self.new }
+        ensures hosted { IsHosted self.new }
+    {
+        if self.run.is_some() {
+            return Err(Refusal::Busy);
+        }
+        if !self.has_room(TURN_NOTES) {
+            return Err(Refusal::JournalFull);
+        }
+        let (told, run) = go_further(&mut self.seat);
+        self.run = run;
+        Ok(told)
     }
 
     /// Settles the run that the host made of the job that is out: what it came to, and how many nanoseconds it took.
@@ -180,6 +180,25 @@ impl Hosted {
             return Err(Refusal::JournalFull);
         }
         Ok(self.seat.collect_from(core))
+    }
+
+    /// Collects the next outcome that the link to this core shows, if there is one. Whether there was one.
+    ///
+    /// # Errors
+    ///
+    /// As of `collect`.
+    pub fn collect_one(&mut self, core: CoreNo) -> Result<bool, Refusal>
+        ensures collects { CollectsNext core self.old result self.new }
+        ensures stays { StaysLinked self.old self.new }
+        ensures hosted { IsHosted self.new }
+    {
+        if core.0 >= self.cores {
+            return Err(Refusal::NoCore);
+        }
+        if !self.has_room(self.seat.recorded().cap()) {
+            return Err(Refusal::JournalFull);
+        }
+        Ok(self.seat.collect_one(core))
     }
 
     /// Shuts the gate of this sender.
@@ -282,7 +301,7 @@ impl Hosted {
     }
 
     /// Whether the host runs no job of this core, and no turn of it is open.
-    fn is_at_rest(&self) -> bool
+    pub fn is_at_rest(&self) -> bool
         ensures { IsTrue result ↔ IsAtRest self.now.recorded }
     {
         !self.run.is_some() && !self.seat.recorded().has_open_turn()
@@ -371,23 +390,5 @@ impl Hosted {
         ensures { IsTrue result ↔ (self.now.recorded.journal.passed ≢ []) }
     {
         self.passed.count() > 0
-    }
-
-    /// The notes of this core and its ends, which are given up.
-    ///
-    /// # Errors
-    ///
-    /// The core comes back if it isn't drained.
-    pub fn end(self) -> Result<(RunningJournal<u64>, Ends<HostJob>), Self>
-        ensures ended { IfOk result (λ parts. (parts.0 ≡ self.recorded.journal) × (parts.1 ≡ self.ends)) }
-        ensures drained { IfOk result (λ _. IsAtRest self.recorded × IsDrained self.recorded.core.cores self.recorded.journal.notes) }
-        ensures refused { IfErr result (λ same. (same ≡ self) × (IsAtRest self.recorded × IsDrained self.recorded.core.cores self.recorded.journal.notes → ⊥)) }
-    {
-        if !self.is_drained() {
-            return Err(self);
-        }
-        let Hosted { seat, .. } = self;
-        let (recorded, ends) = seat.into_parts();
-        Ok((recorded.into_journal(), ends))
     }
 }

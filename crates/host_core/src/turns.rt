@@ -9,7 +9,7 @@ ghost use Rattle.host_core.specs.declared.answers.Picked.TheVariants.{Resume, St
 ghost use Rattle.host_core.specs.Hosted.{IsHosted, IsRunOf};
 ghost use Rattle.host_core.specs.Jobs.{host_meaning};
 ghost use Rattle.host_core.specs.Takings.{run_of, told_taking};
-ghost use Rattle.host_core.specs.Turns.{EndsIfOpen, Goes, TakesOut};
+ghost use Rattle.host_core.specs.Turns.{EndsIfOpen, Goes, GoesFurther, TakesOut};
 
 use crate::answers::{Picked, Refusal};
 use crate::job::HostJob;
@@ -103,4 +103,28 @@ pub(crate) fn go_on(seat: &mut Seat<HostJob>) -> (Result<Picked, Refusal>, Optio
     ensures stays { StaysLinked seat.old seat.new }
 {
     told_turn(take_out(seat))
+}
+
+/// Goes on with the open turn, or ends it: what the host is told of the job that it is to run, and that job.
+pub(crate) fn go_further(seat: &mut Seat<HostJob>) -> (Option<Picked>, Option<Run>)
+    requires rest { seat.old.recorded.core.out ≡ None }
+    requires room { length seat.old.recorded.journal.notes + 4 ≤ seat.old.recorded.journal.room }
+    ensures goes { GoesFurther seat.old.recorded result.0 seat.new.recorded }
+    ensures same { seat.new.ends ≡ seat.old.ends }
+    ensures runs { IsRunOf seat.new.recorded.core.out result.1 }
+    ensures hosted { IsHosted seat.new }
+    ensures stays { StaysLinked seat.old seat.new }
+{
+    match follow_or_end(seat) {
+        Some(Turn::Start(name, queue, job)) => {
+            let (told, run) = started(Run { name, job }, queue);
+            (told.ok(), run)
+        }
+        Some(Turn::Resume(name, queue, job)) => {
+            let (told, run) = resumed(Run { name, job }, queue);
+            (told.ok(), run)
+        }
+        Some(Turn::Back(..)) | Some(Turn::Idle) => unreachable!(),
+        None => (None, None),
+    }
 }

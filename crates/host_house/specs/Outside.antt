@@ -1,5 +1,5 @@
 -- The outside actor of a house, which no core belongs to: its journal, and its ends of the links.
-use Rattle.std.specs.Prelude.{◌≡◌, ◌⊎◌, ℕ, ◌+◌, ◌<◌, ◌≤◌, Result, Ok, Err, IfOk, OnErr, length}
+use Rattle.std.specs.Prelude.{◌≡◌, ◌⊎◌, ℕ, Bool, ◌+◌, ◌<◌, ◌≤◌, Result, Ok, Err, IfOk, OnErr, length}
 use Rattle.base_words.specs.declared.names.JobId.{JobId}
 use Rattle.base_words.specs.declared.names.TicketError.{TicketError}
 use Rattle.base_words.specs.declared.order.Order.{Order}
@@ -9,7 +9,7 @@ use Rattle.actor_desk.specs.Lanes.{FitsSent}
 use Rattle.link_ends.specs.Calls.{Sends}
 use Rattle.link_ends.specs.Fits.{Fits}
 use Rattle.actor_desk.specs.Submissions.{Submits, numbered}
-use Rattle.actor_desk.specs.Tickets.{CollectsFrom, DetachesTicket, GetsAll, RedeemsTicket}
+use Rattle.actor_desk.specs.Tickets.{CollectsFrom, DetachesTicket, GetsAll, GetsNext, RedeemsTicket}
 use Rattle.link_ring.specs.Ends.{SameEnds, out_at}
 use Rattle.actor_seat.specs.Linked.{Grows}
 use Rattle.actor_seat.specs.Seats.{UsesOut}
@@ -62,6 +62,18 @@ Collects core old (Ok count) new = CollectsOf core old count new
 Collects core old (Err refusal.NoCore) new = (old.desk.cores ≤ core) × (new ≡ old)
 Collects core old (Err refusal.JournalFull) new = (core < old.desk.cores) × (HasRoom old.desk.cap old → ⊥) × (new ≡ old)
 Collects core old (Err other) new = ⊥
+
+-- the next outcome that the link to a core shows is collected, if there is one
+pub record CollectsOne (core : ℕ) (old : CallerView) (found : Bool) (new : CallerView) : Type 0 where
+  pub gets : GetsNext core old.desk new.desk (out_at core old.ends).out (out_at core new.ends).out found
+  pub uses : UsesOut core old.ends new.ends
+
+-- the same, unless there is no such core, or too little room for as many as a link holds
+abbrev pub CollectsNext : ℕ → CallerView → Result Bool Refusal → CallerView → Type 0
+CollectsNext core old (Ok found) new = CollectsOne core old found new
+CollectsNext core old (Err refusal.NoCore) new = (old.desk.cores ≤ core) × (new ≡ old)
+CollectsNext core old (Err refusal.JournalFull) new = (core < old.desk.cores) × (HasRoom old.desk.cap old → ⊥) × (new ≡ old)
+CollectsNext core old (Err other) new = ⊥
 
 -- an outcome is redeemed, and fits the order that was sent under its name, or the ticket is refused and nothing changes
 pub record RedeemsBy (name : JobId) (old : CallerView) (told : Result (Outcome HostJob ℕ) Refusal) (new : CallerView) : Type 0 where

@@ -2,9 +2,12 @@
 
 ghost use Rattle.std.specs.Prelude.{◌≡◌, ◌≢◌, ◌↔◌, [], IfOk, IsTrue, length};
 ghost use Rattle.actor_desk.specs.Submissions.{opened_desk};
+ghost use Rattle.link_ends.specs.Fits.{Fits};
 ghost use Rattle.link_ring.specs.Ends.{AreFresh};
+ghost use Rattle.actor_seat.specs.OutsideSeats.{IsSeatedOutside};
+ghost use Rattle.host_core.specs.Jobs.{host_meaning};
 ghost use Rattle.host_core.specs.Submissions.{order_of_host};
-ghost use Rattle.host_house.specs.Outside.{Collects, Detaches, HasRoom, Posts, Redeems, StaysOutside};
+ghost use Rattle.host_house.specs.Outside.{Collects, CollectsNext, Detaches, HasRoom, Posts, Redeems, StaysOutside};
 ghost use Rattle.host_house.specs.Passing.{Forgets, HandsOn};
 
 use crate::passing::{forget, hand_on};
@@ -115,6 +118,24 @@ impl Outside {
         Ok(self.seat.collect_from(core))
     }
 
+    /// Collects the next outcome that the link to this core shows, if there is one. Whether there was one.
+    ///
+    /// # Errors
+    ///
+    /// As of `collect`.
+    pub fn collect_one(&mut self, core: CoreNo) -> Result<bool, Refusal>
+        ensures collects { CollectsNext core self.old result self.new }
+        ensures stays { StaysOutside self.old self.new }
+    {
+        if core.0 >= self.cores {
+            return Err(Refusal::NoCore);
+        }
+        if !self.has_room(self.seat.cap()) {
+            return Err(Refusal::JournalFull);
+        }
+        Ok(self.seat.collect_one(core))
+    }
+
     /// The outcome of a submission, which is gone from then on.
     ///
     /// # Errors
@@ -194,6 +215,16 @@ impl Outside {
         ensures { IsTrue result ↔ (self.now.desk.journal.passed ≢ []) }
     {
         self.passed.count() > 0
+    }
+
+    /// The ends of this actor, which is given up with its notes.
+    pub fn into_ends(self) -> Ends<HostJob>
+        ensures ends { result ≡ self.ends }
+        ensures seated { IsSeatedOutside (Fits host_meaning) self }
+    {
+        let Outside { seat, .. } = self;
+        let (_desk, ends) = seat.into_parts();
+        ends
     }
 
     /// The notes and the ends, which are given up.

@@ -11,7 +11,7 @@ ghost use Rattle.actor_desk.specs.Submissions.{Submits, numbered};
 ghost use Rattle.actor_core.specs.Recorded.{IsRecorded, desk_of};
 ghost use Rattle.actor_desk.specs.Ends.{IsOutOf};
 ghost use Rattle.actor_core.specs.Ends.{KeepsIn, IsSameSeat};
-ghost use Rattle.actor_desk.specs.Tickets.{HasLane, StaysBeside, RefusesTicket, RedeemsTicket, DetachesTicket, CollectsFrom, GetsAll};
+ghost use Rattle.actor_desk.specs.Tickets.{HasLane, StaysBeside, RefusesTicket, RedeemsTicket, DetachesTicket, CollectsFrom, GetsAll, GetsNext};
 ghost use Rattle.actor_desk.specs.Spending.{HoldsSome, booked};
 
 use super::Recorded;
@@ -66,6 +66,23 @@ impl<J: Task<Out = u64>, A: Allocator + Clone> Recorded<J, A> {
         ensures untouched { O.untouched end.new ≡ O.untouched end.old }
     {
         self.said.collect_from(end, core)
+    }
+
+    /// Collects the next outcome that the link of a core shows, if there is one, and notes it. Whether there was one.
+    pub fn collect_one<O: OutEnd<J>>(&mut self, end: &mut O, core: CoreNo) -> bool
+        requires beside { IsOutOf core (desk_of self.old) (O.out end.old) (O.credited end.old) }
+        requires lane { HasLane (Fits J.meaning) core (desk_of self.old) (O.out end.old) (O.credited end.old) }
+        requires room { length self.old.journal.notes + length (O.out end.old).sent ≤ self.old.journal.room + (O.out end.old).got }
+        ensures gets { GetsNext core (desk_of self.old) (desk_of self.new) (O.out end.old) (O.out end.new) result }
+        ensures books { booked (desk_of self.new) ≡ booked (desk_of self.old) }
+        ensures stays { StaysBeside (Fits J.meaning) core (desk_of self.old) (desk_of self.new) (O.out end.new) (O.credited end.new) }
+        ensures rest { self.new ≡ record self.old { journal = self.new.journal; lanes = self.new.lanes } }
+        ensures ins { (sender : ℕ) → KeepsIn sender self.old self.new }
+        ensures seat { IsSameSeat self.old self.new }
+        ensures sound { IsRecorded J.meaning self.new }
+        ensures untouched { O.untouched end.new ≡ O.untouched end.old }
+    {
+        self.said.collect_one(end, core)
     }
 
     /// Whether a ticket is this core's, and there is a core of its number. Only then is there an end to lend; any other ticket is `Unknown`.

@@ -1,4 +1,7 @@
 //! The places of a front, and what takes and moves the nodes in them.
+//!
+//! The taken places lie side by side, from `begin` to `end`, with their keys in rising order. The least node leaves without a move of any
+//! other. A node that comes moves those behind its place by one, and where the last place is taken, all move to the first places before.
 ghost use Rattle.std.specs.Prelude.{◌≡◌, ℕ, ◌+◌, ◌-◌, ◌<◌, ◌==◌, [], ◌∷◌, None, Some, true, false, length, slice_index, slice_index_or, slice_set, IfOk};
 ghost use Rattle.core_timeline.specs.Rising.{stands_before, same_key, EachKey};
 ghost use Rattle.core_timeline.specs.Front.{front_keys, keys_at, IsTaken, IsFront, HasGap};

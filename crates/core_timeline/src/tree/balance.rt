@@ -1,4 +1,7 @@
 //! Nodes whose sides change: what lifts a side, and what parts a node from both.
+//!
+//! A side that is two levels higher than the other gives a node to its place: `middle_lifted` puts one above two others, which share its
+//! sides. Each place is emptied before a node is put in it, so that nothing is dropped on the way.
 ghost use Rattle.std.specs.Prelude.{◌≡◌, ◌+◌, ◌<◌, ◌∷◌, ◌++◌, true, false, max, length};
 ghost use Rattle.core_timeline.specs.Tree.{empty_tree, IsFilled};
 ghost use Rattle.core_timeline.specs.Nodes.{seen, key_of, keys_of, IsInBalance, IsBalanced, IsLoose, HasOnlyRight, Tilts, IsTwoHigherOnLeft, IsTwoHigherOnRight, IsUprightLeft, IsUprightRight, IsUpright};

@@ -247,6 +247,8 @@ async fn begin(here: Here, port: u16, lease: Duration, folder: Option<PathBuf>) 
     if let Some(path) = path.clone().filter(|it| it.exists()) {
         read(&std::fs::read_to_string(&path).unwrap_or_else(|error| panic!("{}: {error}", path.display())));
     }
+    // A client asks any core for any topic, so none is heard before all have theirs.
+    here.barrier().await;
     let listener = TcpListener::reuse_port(("127.0.0.1", port)).unwrap_or_else(|error| panic!("port {port}: {error}"));
     while let Some(stream) = listener.accept_until_stop().await {
         drop(spawn_local(MESSAGES, serve(here.clone(), stream, lease)));

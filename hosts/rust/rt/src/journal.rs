@@ -32,7 +32,7 @@ pub enum Journal {
     /// a journal, which no audit judges.
     Last(usize),
     /// They go in bytes to the files `part0`, `part1` and so on in this folder, one for each core and the last for the outside actor. The file `head`
-    /// has what stands before them: all of them, joined in this order, are the journals, which `fairexec audit --bytes` judges.
+    /// has what stands before them. `fairexec audit --parts` judges the folder, in memory that stays the same however long the run was.
     Parts(PathBuf),
     /// They are kept, audited at the end, and told by the [`Report`](crate::Report). The run ends with `JournalFull` once a core made as many notes as
     /// [`Builder::notes`](crate::Builder::notes) says.

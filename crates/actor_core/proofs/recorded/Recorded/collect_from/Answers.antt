@@ -21,7 +21,8 @@ returns g c =
       books = said_so c.self.inside.core c.self.inside.took.items c.self.inside.said c.self.invariant c.self.view_is now.is_its (λ old new. booked new ≡ booked old) c.collect_from.ensures.books;
       few = said_so c.self.inside.core c.self.inside.took.items c.self.inside.said c.self.invariant c.self.view_is now.is_its (λ old new. length new.journal.notes ≤ length old.journal.notes + old.cap) c.collect_from.ensures.few;
       end = c.collect_from.ensures.end;
-      stays = said_so c.self.inside.core c.self.inside.took.items c.self.inside.said c.self.invariant c.self.view_is now.is_its (λ old new. StaysBeside (Fits g.J.Task.meaning) c.args.core old new (g.O.OutEnd.out c.collect_from.new.end) (g.O.OutEnd.credited c.collect_from.new.end)) c.collect_from.ensures.stays;
+      stays = said_so c.self.inside.core c.self.inside.took.items c.self.inside.said c.self.invariant c.self.view_is now.is_its
+          (λ old new. StaysBeside (Fits g.J.Task.meaning) c.args.core old new (g.O.OutEnd.out c.collect_from.new.end) (g.O.OutEnd.credited c.collect_from.new.end)) c.collect_from.ensures.stays;
       rest = now.rest;
       ins = now.ins;
       seat = now.seat;

@@ -13,7 +13,7 @@ left c = record {
   room = subst (λ (view : HostedView). HasRoom 1 view.recorded) (sym c.self.view_is) (c.has_room.ensures.0 c.if-not-has_room.false);
   few = (adds_closing c.self.inside.seat.recorded c.close.new.self.recorded _ _ c.close.ensures.closes).few;
   keeps = closed_run c.self.inside.seat.recorded c.close.new.self.recorded _ _ c.close.ensures.closes;
-  stays = c.close.ensures.stays;
+  seat = c.close.ensures.stays.seat;
 }
 
 pub invariant_of-self : goal.invariant_of-self

@@ -16,7 +16,7 @@ left c = record {
       (subst (λ count. HasRoom count c.args.self.now.recorded) (c.cap.ensures.cap ∙ ap (λ view. view.cap) c.recorded.ensures.same) (c.has_room.ensures.0 c.if-not-has_room.false));
   few = collected_few c.args.core c.collect_from.result c.self.inside.seat c.collect_from.new.self c.collect_from.ensures.does;
   keeps = rest_run c.self.inside.seat.recorded c.collect_from.new.self.recorded c.collect_from.ensures.does.rest;
-  stays = c.collect_from.ensures.does.stays;
+  seat = c.collect_from.ensures.does.stays.seat;
 }
 
 pub invariant_of-self : goal.invariant_of-self

@@ -14,7 +14,7 @@ left c = record {
   room = subst (λ (view : HostedView). HasRoom 2 view.recorded) (sym c.self.view_is) (c.has_room.ensures.0 c.if-not-has_room.false);
   few = delivered_few c.args.sender c.deliver.result c.self.inside.seat c.deliver.new.self c.deliver.ensures.does;
   keeps = delivered_run c.self.inside.seat.recorded c.deliver.new.self.recorded _ _ c.deliver.result c.deliver.ensures.does.delivers;
-  stays = c.deliver.ensures.does.stays;
+  seat = c.deliver.ensures.does.stays.seat;
 }
 
 pub invariant_of-self : goal.invariant_of-self

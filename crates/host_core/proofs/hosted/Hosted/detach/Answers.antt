@@ -14,7 +14,7 @@ left c = record {
   room = subst (λ (view : HostedView). HasRoom 1 view.recorded) (sym c.self.view_is) (c.has_room.ensures.0 c.if-not-has_room.false);
   few = (detaches_add _ _ _ _ c.detach.ensures.does.detaches).few;
   keeps = rest_run c.self.inside.seat.recorded c.detach.new.self.recorded c.detach.ensures.does.rest;
-  stays = c.detach.ensures.does.stays;
+  seat = c.detach.ensures.does.stays.seat;
 }
 
 pub invariant_of-self : goal.invariant_of-self

@@ -14,7 +14,7 @@ left c = record {
   room = subst (λ (view : HostedView). HasRoom 1 view.recorded) (sym c.self.view_is) (c.has_room.ensures.0 c.if-not-has_room.false);
   few = (redeems_add _ _ _ _ c.redeem.ensures.does.redeems).few;
   keeps = rest_run c.self.inside.seat.recorded c.redeem.new.self.recorded c.redeem.ensures.does.rest;
-  stays = c.redeem.ensures.does.stays;
+  seat = c.redeem.ensures.does.stays.seat;
 }
 
 pub invariant_of-self : goal.invariant_of-self

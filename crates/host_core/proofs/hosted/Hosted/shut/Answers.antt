@@ -15,7 +15,7 @@ left c = record {
       let longer : length c.shut.new.self.recorded.journal.notes ≡ length c.self.inside.seat.recorded.journal.notes + 1 = ap (λ journal. length journal.notes) c.shut.ensures.does.tells.journal ∙ omega arith in
       omega (arith, longer);
   keeps = same_run c.self.inside.seat.recorded.core.out c.shut.new.self.recorded.core.out c.shut.ensures.does.tells.out;
-  stays = c.shut.ensures.does.stays;
+  seat = c.shut.ensures.does.stays.seat;
 }
 
 pub invariant_of-self : goal.invariant_of-self

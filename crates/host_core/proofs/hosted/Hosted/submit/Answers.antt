@@ -14,7 +14,7 @@ left c = record {
   room = subst (λ (view : HostedView). HasRoom 1 view.recorded) (sym c.self.view_is) (c.has_room.ensures.0 c.if-not-has_room.false);
   few = (submits_add _ _ _ _ _ c.submit.ensures.does.submits).few;
   keeps = rest_run c.self.inside.seat.recorded c.submit.new.self.recorded c.submit.ensures.does.rest;
-  stays = c.submit.ensures.does.stays;
+  seat = c.submit.ensures.does.stays.seat;
 }
 
 pub invariant_of-self : goal.invariant_of-self

@@ -1,0 +1,6 @@
+//! The parts of the journals of a house that stand in a folder: how a program reads them.
+#![tactic(auto)]
+
+mod folder;
+
+pub use folder::{gathered, house_in, part_files, unopened};

@@ -1,0 +1,4 @@
+pub mod Fresh
+pub mod HousesRefused
+pub mod Next
+pub mod Told

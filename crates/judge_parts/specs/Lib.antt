@@ -1,0 +1,2 @@
+pub mod BadHouses
+pub mod Houses

@@ -1,0 +1,4 @@
+pub mod Reads
+pub mod BadReads
+pub mod Houses
+pub mod Tellers

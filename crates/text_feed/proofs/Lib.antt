@@ -1,0 +1,5 @@
+pub mod FrontLemmas
+pub mod TakeLemmas
+pub mod FeedLemmas
+pub mod FaultLemmas
+pub mod IntakeLemmas
