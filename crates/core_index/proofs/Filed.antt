@@ -200,7 +200,7 @@ some_keys rows key head (suc count) one = omega arith
 pub IsIndexed-head : (mask : ℕ) (rows : List Row) (buckets : List Bucket) → IsIndexed mask rows buckets → (key place less : ℕ) (row : Row) (bucket : Bucket) → bucket ≡ bucket_at buckets place → place < length buckets → key < length rows
     → slice_index_or rows key no_row ≡ row → filed_at rows key ≡ Some row.name → place ≡ place_of row.name mask → bucket.head ≡ key → bucket.count ≡ suc less → IsIndexed mask (set rows key (record row { filed = false })) (set buckets place (record { head = row.next; count = less }))
 IsIndexed-head mask rows buckets is key place less row bucket at inside within read was here first count =
-    IsIndexed-out mask rows later buckets is row.name key place shorter here inside was (ap filed_name (get_or-set_same rows key gone no_row within)) (λ other apart. ap filed_name (get_or-set_other rows key other gone no_row apart)) out (λ other _. stays (bucket_at buckets other)) (length-set rows key gone)
+    IsIndexed-out mask rows later buckets is row.name key place shorter here inside was (ap filed_name (get_or-set_same rows key gone no_row within)) (λ it apart. ap filed_name (get_or-set_other rows key it gone no_row apart)) out (λ it _. stays (bucket_at buckets it)) (length-set rows key gone)
   where
     gone : Row
     gone = record row { filed = false }

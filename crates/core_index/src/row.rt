@@ -8,7 +8,7 @@ use base_words::{ActorNo, CoreNo, JobId};
 /// What is known of a key.
 #[derive(Clone, Copy)]
 pub struct Row {
-    /// The name of the job under this key, or of the last one that had it. Where the key isn't filed, it says nothing.
+    /// The name of the job under this key, or of the last one that had it. If the key isn't filed, it says nothing.
     pub name: JobId,
     /// The next key of its bucket. At the last one it says nothing.
     pub next: u32,

@@ -1,4 +1,7 @@
 //! How a house is opened, gives its seats and takes their journals in.
+//!
+//! The journals come back in the order that a text has them: core 0 first, the outside actor last. A seat is taken in only if its journal is
+//! the next one, and comes back unchanged if it isn't. Once all are in, the house can be judged and written.
 
 ghost use Rattle.std.specs.Prelude.{◌≡◌, ◌≢◌, ◌⊎◌, ◌↔◌, ◌+◌, None, Some, IfErr, IfOk, IfSome, IsTrue, length};
 ghost use Rattle.host_calls.specs.declared.code.Code.TheVariants as code;

@@ -1,4 +1,7 @@
 //! The outside actor: the host's part of the house that belongs to no core.
+//!
+//! It sends and collects as a core does, and delivers nothing. Each call that may write asks first whether its notes are free, then does what
+//! a core's seat does in the same case. So a refusal changes nothing.
 
 ghost use Rattle.std.specs.Prelude.{◌≡◌, ◌≢◌, ◌↔◌, [], IfOk, IsTrue, length};
 ghost use Rattle.actor_desk.specs.Submissions.{opened_desk};

@@ -1,4 +1,7 @@
 //! The audit of the journals of all actors.
+//!
+//! The rules are tried in the order of their numbers, and the first one that is broken is told. Each function here has tried one rule more than
+//! the one that calls it. What the rules ask of a name is put into tables before the first is tried: then want of memory can't be met halfway.
 
 ghost use Rattle.std.specs.Prelude.{◌≡◌, ◌+◌, ◌≤◌, IfOk, Ok};
 ghost use Rattle.base_words.specs.Limits.{most_cores};

@@ -1,4 +1,7 @@
 //! Rule 4, of a drained core: all that was accepted for it has ended.
+//!
+//! A core is drained if each sender's gate is shut, all behind the gates was delivered, and no queue has work. Only of such a core is asked
+//! whether each order that any actor sent to it has ended: its own journal tells the end, the senders' what was sent.
 
 ghost use Rattle.std.specs.Prelude.{◌≡◌, ◌↔◌, ◌∷◌, ◌+◌, ◌<◌, ◌≤◌, ℕ, IsTrue, Some, false, length};
 ghost use Rattle.base_words.specs.Assembly.{Assembly as AllJournals, journal_of, order_of};

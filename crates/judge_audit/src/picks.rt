@@ -1,4 +1,7 @@
 //! Rule 5: each pick takes the least pair of virtual runtime and number among the queues that have work, and a turn of several polls ends by a note with their time.
+//!
+//! One walk over a core's notes keeps the accounts of its queues, which job is out and which turn is open, and stops at the first note that
+//! none of these allows. A pick that its turn doesn't follow is known as wrong one note later, so the place of the note before it is told.
 
 ghost use Rattle.std.specs.Prelude.{◌≡◌, ◌<◌, ◌≤◌, ◌∷◌, ℕ, IfSome, IsTrue, None, Some, [], is_some, true, false, length, get_or};
 ghost use Rattle.base_words.specs.Clauses.{PicksRight, IsInItsTurn, IsRightIfPick};

@@ -1,4 +1,7 @@
 //! The first place at which a rule is broken: the least actor, and of that the least line.
+//!
+//! Each rule has a function that finds the first line of one actor, and one that goes through the actors in their order and stops at the first
+//! that has such a line.
 
 ghost use Rattle.std.specs.Prelude.{◌≡◌, ◌+◌, ◌<◌, ◌≤◌, IfSome, None, false};
 ghost use Rattle.base_words.specs.Assembly.{journal_of};

@@ -23,7 +23,7 @@ pub record HasTold (cores cap burst : ℕ) (told : ℕ → Journal ℕ) (assembl
 abbrev pub waiting_at : List (Option (Note ℕ)) → ℕ → Option (Note ℕ)
 waiting_at waiting actor = slice_index_or waiting actor None
 
--- what was told of the actor was read, but for the note that waits
+-- what was told of the actor was read, except the note that waits
 abbrev pub IsReadOf : (ℕ → Journal ℕ) → Option (Note ℕ) → HouseRead → ℕ → Type 0
 IsReadOf told waits house actor = told actor ≡ with_next waits (read_at actor house)
 

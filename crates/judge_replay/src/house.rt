@@ -54,7 +54,7 @@ impl Model for Replay {
     ghost invariant = { λ r. IsHouse (record { count = r.count; cap = r.cap; burst = r.burst; cores = r.cores.items; outside = r.outside }) };
 }
 
-/// Where the last send of a sender to a core stands.
+/// The place of the last send of a sender to a core.
 fn place(sender: ActorNo, core: u8) -> usize
     ensures { result ≡ 16 * sender + core }
 {

@@ -1,4 +1,8 @@
 //! A link within one thread.
+//!
+//! Orders go one way through a buffer, outcomes the other way through a second one. Both have a place for each submission that may be
+//! outstanding, and a submission is that from `send` to `credit`: what was collected still counts. So neither buffer is ever full where a
+//! call pushes.
 
 ghost use Rattle.std.specs.Prelude.{◌≡◌, ◌+◌, ◌-◌, ◌^◌, ◌<◌, [], ◌∷◌, ◌++◌, length, slice_get, IfOk, IfSome, OnSome};
 ghost use Rattle.base_jobs.specs.Ready.{HasReadyJob};

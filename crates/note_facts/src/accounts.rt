@@ -1,4 +1,7 @@
 //! What is known of the queues of one journal.
+//!
+//! Each note is read once, and all that it changes is in the account of at most one queue. Two change more: a core that closes ends all parks,
+//! and a pick raises the floor. A queue that gets work begins at the floor at least, as in Linux's CFS.
 
 ghost use Rattle.std.specs.Prelude.{◌≡◌, ◌↔◌, ◌<◌, ◌≤◌, ◌⊎◌, ◌∷◌, ℕ, IsTrue, Some, [], if◌then◌else◌, get_or, length};
 ghost use Rattle.base_words.specs.Bursts as turns;

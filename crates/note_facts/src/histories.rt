@@ -1,4 +1,7 @@
 //! What the notes of a journal tell at each place under the name of the note there.
+//!
+//! A rule that judges a note asks what was told before under its name. A table by names knows it only for the place that is read now, so a
+//! fact is kept for each place. The table itself stays as `past`, behind the last note.
 
 ghost use Rattle.std.specs.Prelude.{◌∷◌, ◌≡◌, ◌+◌, ◌<◌, ℕ, IfOk, IsTrue, length, get_or};
 ghost use Rattle.base_words.specs.declared.note.Note as spec;

@@ -1,4 +1,7 @@
 //! Which journals have a text.
+//!
+//! Whose journal a note stands in decides most: a core alone delivers, picks and polls, and each actor sends and collects. A number of cores,
+//! of places or of a submission has a range of its own, one function each. `is_spelled_note` asks those that a note's kind needs.
 
 ghost use Rattle.std.specs.Prelude.{◌≡◌, ◌↔◌, ◌<◌, ◌≤◌, ◌^◌, ℕ, All, IsTrue, reverse};
 ghost use Rattle.base_words.specs.Charge.{InRange};

@@ -1,4 +1,7 @@
-//! The sink.
+//! A sink that writes the journal's text.
+//!
+//! Notes go into a page as lines. A page that is full is written as a whole before the next notes are put, so a `take` makes room first and
+//! puts all its notes or none: what it refuses has left no line.
 
 ghost use Rattle.std.specs.Prelude.{◌≡◌, ◌+◌, ◌-◌, ◌^◌, ◌∷◌, ◌++◌, ℕ, [], Contains, IfErr, IfOk, IsErr, OnErr, OnOk, length, min, reverse};
 ghost use Rattle.text_journal.specs.Texts.{actor_lines, text_of};

@@ -1,4 +1,7 @@
 //! What is known of the jobs that are parked.
+//!
+//! Memory is asked for before the notes are read, a place for each job that they park; so reading them can't fail halfway. Places of jobs
+//! that woke are given back behind them, so the table grows with who is parked and not with who ever was.
 
 ghost use Rattle.std.specs.Prelude.{◌≡◌, true, All, OnErr, OnOk, []};
 ghost use Rattle.note_facts.specs.Parks as parks;

@@ -1,4 +1,7 @@
 //! Reads the fields of a note as bytes.
+//!
+//! Each function takes one field off the front and answers it with the bytes behind it, or `None` if no such field stands there: too few bytes,
+//! a kind that there isn't, or a number out of its range. A field of several kinds begins with a byte that tells the kind.
 
 ghost use Rattle.std.specs.Prelude.{◌≡◌, ◌∷◌};
 ghost use Rattle.base_words.specs.declared.note.OutcomeNote.TheVariants as outcome;

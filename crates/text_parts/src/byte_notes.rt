@@ -1,4 +1,7 @@
 //! Reads the note at the front of some bytes.
+//!
+//! The first byte tells the kind. Behind it stand the fields of that kind, one after another, without any length: the kind alone says how long
+//! a note is.
 
 ghost use Rattle.std.specs.Prelude.{◌≡◌, ◌∷◌};
 ghost use Rattle.base_words.specs.declared.note.Note.TheVariants as note;
