@@ -1,4 +1,7 @@
 //! The command line. Nothing here reads, prints or runs anything.
+//!
+//! `command` is all that the parser knows: each subcommand is made by a function of its own, with its flags and its help. The texts of the help
+//! are also those of the manual page, which a test compares.
 
 ghost use Rattle.std.specs.Prelude.{◌≡◌, false, IfOk};
 ghost use Rattle.clap.specs.Words.{app_of, is_broken, with_rule};

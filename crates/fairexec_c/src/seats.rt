@@ -1,4 +1,7 @@
 //! The calls on an actor of a house.
+//!
+//! A handle is a box of the actor behind a pointer of C's. Each call here looks whether there is an actor in it, does what its namesake does, and
+//! turns the answer into a code. What a call tells, it writes into a place that the host gave, and only where its code says so.
 
 ghost use Rattle.std.specs.Prelude.{◌≡◌, None};
 ghost use Rattle.host_calls.specs.Links.{ClosesTold, DeliversTold, IsTold, ShutsTold};

@@ -1,4 +1,7 @@
 //! A script for threads as far as its lines are judged.
+//!
+//! Limits are tried as the lines come, each by a count that is kept here: queues and orders of a core, polls of all jobs. So a script that is
+//! too long for threads is refused at the line that is too much, and no event of it is kept behind.
 
 ghost use Rattle.std.specs.Prelude.{◌≡◌, Ok, Err, IfOk, IfErr, None, Some, OnOk, OnErr, length, nat_lt, ◌<◌, ◌≤◌, ◌+◌, ◌++◌, ◌∷◌, []};
 ghost use Rattle.text_words.specs.Words.{words};

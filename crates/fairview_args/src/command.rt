@@ -1,4 +1,7 @@
 //! The command line. Nothing here reads, prints or runs anything.
+//!
+//! `command` is all that the parser knows. Each subcommand is made by a function of its own; all of them have FILE and the flags that say what is
+//! in it. The commands that print tables, rows and pictures are added in three steps, since the proof of a step grows with what it adds.
 
 ghost use Rattle.std.specs.Prelude.{◌≡◌, false, IfOk};
 ghost use Rattle.clap.specs.Words.{app_of, is_broken};

@@ -1,4 +1,7 @@
 //! A column of a panel as text.
+//!
+//! A column is a turn's end, or several where they are too many for the panel. It is a ground, at which the pointer finds it, with a title; a box
+//! up for the lead of the first queue and one down for the second's; and the bound above and below.
 
 ghost use Rattle.std.specs.Prelude.{◌≡◌, Some};
 ghost use Rattle.fairview_pictures.specs.Shapes.{box_text};

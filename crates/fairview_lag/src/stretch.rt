@@ -1,4 +1,7 @@
 //! What a walk knows of two queues.
+//!
+//! A stretch begins where both queues have work, and ends where one has none. At its beginning the charges of both are noted; a lag is what each
+//! got since. Its bound is the greatest charge of the one and that of the other together.
 
 ghost use Rattle.std.specs.Prelude.{◌≡◌, ◌<◌, ◌∷◌, ℕ, [], length, OnErr, OnOk};
 ghost use Rattle.base_words.specs.Journal.{Journal as Notes};

@@ -1,4 +1,8 @@
 //! How the workers of a runtime end, and what their journals are together.
+//!
+//! A worker ends by itself once its core is drained, so the caller has to have closed each core before: that is asked first, and the runtime comes
+//! back if not. Then all threads are waited for, in the order of their numbers, and the links go with the last one who had them. The room for
+//! what comes back was taken at the opening.
 
 ghost use Rattle.std.specs.Prelude.{◌≡◌, ◌+◌, ◌<◌, ◌≤◌, ℕ, true, [], IfOk, length, map, vec_capacity};
 ghost use Rattle.link_ring.specs.Grid.{IsGrid, AreReunited};

@@ -1,4 +1,7 @@
 //! How a house is opened, and its threads begin.
+//!
+//! All memory is asked for first: links, bells, seats, journals, and the room in which `finish` puts what comes back. Threads are made last.
+//! If one can't be made, those that were end. Clocks, gates, sinks and shared states are dealt by their place.
 
 ghost use Rattle.std.specs.Prelude.{◌≡◌, ◌+◌, ◌<◌, ◌≤◌, All, [], ◌∷◌, false, IfOk, length, map, replicate, vec_capacity};
 ghost use Rattle.run_config.specs.Configs.{IsGood};

@@ -1,4 +1,8 @@
 //! A text of journals as far as its lines are judged.
+//!
+//! A line is judged where it stands: the first two tell the form and the house, and behind them comes a note or the `end` of the actor whose turn
+//! it is. A note that is right goes to the taker at once, so a text is judged to its end in memory of one line. The same draft takes notes that
+//! were read as bytes, which name their actor (`raise_to`, `hand`).
 
 ghost use Rattle.std.specs.Prelude.{◌≡◌, ◌≤◌, ◌<◌, ◌+◌, Some, Ok, Err, IfOk, IfErr, IfSome, OnOk, length};
 ghost use Rattle.base_words.specs.Limits.{most_cores, most_notes};

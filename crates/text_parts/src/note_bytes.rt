@@ -1,4 +1,7 @@
 //! Writes a note as bytes.
+//!
+//! A note is put by one copy of an array whose length its kind fixes: fields that are put one by one would each ask for room. What is read back
+//! is in byte_notes.rt, kind by kind under the same numbers.
 
 ghost use Rattle.std.specs.Prelude.{◌≡◌, ◌≤◌, ◌++◌, ◌∷◌, [], OnOk, length};
 ghost use Rattle.base_words.specs.Assembly.{IsPrefix};

@@ -1,4 +1,8 @@
 //! Parts of a journal as bytes.
+//!
+//! A part stands alone: it says whose notes it has, how many came before, how many it has and of how many bytes, and ends with two sums of all of
+//! these. It is read in that order, and each step here may tell one cause; so of a damaged part the first thing that is wrong is told, and its
+//! notes are tried only once its sums are right.
 
 ghost use Rattle.std.specs.Prelude.{◌≡◌, ◌<◌, ◌++◌, ◌^◌, IfOk, OnOk, drop, length};
 ghost use Rattle.base_words.specs.Assembly.{IsPrefix};

@@ -1,4 +1,7 @@
 //! The journals of a house as bytes: its numbers, and parts one behind the other, actor after actor.
+//!
+//! Each part is read whole, judged beside the one before it, and only then are its notes handed to the draft that texts use too. A fault is told
+//! by the byte at which its part begins. What remains behind the last part tells the place: it is counted from the end.
 
 ghost use Rattle.std.specs.Prelude.{◌≡◌, ◌+◌, ◌<◌, ◌≤◌, ◌↔◌, ◌++◌, ℕ, List, [], All, Ok, Some, IfErr, IfOk, IsTrue, OnOk, length};
 ghost use Rattle.base_words.specs.Assembly.{IsPrefix};

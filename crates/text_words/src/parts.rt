@@ -1,4 +1,7 @@
 //! The notes by their parts, each a function of its own.
+//!
+//! Notes of one shape share a part, whatever their word. A part is written by one `write!`, so what it puts out is said once,
+//! field by field.
 
 ghost use Rattle.std.specs.Prelude.{◌++◌, Some, codes, decimal};
 ghost use Rattle.base_words.specs.declared.note.Note.TheVariants as note;
