@@ -33,7 +33,7 @@ impl Model for CoreReplay {
 
 impl CoreReplay {
     /// A core of which nothing was read.
-    pub(crate) fn of(hosted: Hosted) -> Self
+    pub fn of(hosted: Hosted) -> Self
         requires { hosted.recorded.journal.passed ≡ [] }
         ensures linked { result.linked ≡ hosted }
         ensures none { core_read result ≡ [] }
@@ -75,7 +75,7 @@ impl CoreReplay {
     }
 
     /// Reads the next note of the core.
-    pub(crate) fn read(&mut self, note: &Note<u64>) -> Replayed
+    pub fn read(&mut self, note: &Note<u64>) -> Replayed
         ensures same { IsSameCore self.old.linked self.new.linked }
         ensures reads { Reads note.now (core_read self.old) result (core_read self.new) }
     {

@@ -12,6 +12,7 @@ mod same;
 mod teller;
 
 pub use ahead::Replayed;
+pub use cores::CoreReplay;
 pub use house::Replay;
 pub use reading::{Found, ReplayError, replays};
 pub use teller::Teller;
