@@ -35,7 +35,7 @@ _fairexec() {
     case ${COMP_WORDS[1]}/$word in
         run/-*) _fairexec_words "$word" '--journal --stats --help -h' ;;
         threads/-*) _fairexec_words "$word" '--journal --stats --help -h' ;;
-        audit/-*) _fairexec_words "$word" '--bytes --parts --help -h' ;;
+        audit/-*) _fairexec_words "$word" '--bytes --parts --follow --help -h' ;;
         journal/-*) _fairexec_words "$word" '--text --help -h' ;;
         run/* | threads/* | audit/* | journal/*) _fairexec_files "$word" ;;
         help/*) _fairexec_words "$word" 'run threads audit journal help' ;;

@@ -24,6 +24,7 @@ complete -c fairexec -n '__fish_seen_subcommand_from threads' -F
 
 complete -c fairexec -n '__fish_seen_subcommand_from audit' -l bytes -d 'Read the journals as bytes'
 complete -c fairexec -n '__fish_seen_subcommand_from audit' -l parts -d 'Read the parts in a folder, side by side'
+complete -c fairexec -n '__fish_seen_subcommand_from audit' -l follow -d 'Go on as the parts grow, and print a line each second'
 complete -c fairexec -n '__fish_seen_subcommand_from audit' -s h -l help -d 'Print help'
 complete -c fairexec -n '__fish_seen_subcommand_from audit' -F
 

@@ -14,6 +14,7 @@ PARTS = {
     "tests/run-units": (1100, 4),
     "tests/front-door": (20, 1),
     "tests/program": (60, 1),
+    "tests/follow": (20, 1),
     "tests/fairview": (120, 1),
     "tests/hosts": (480, 2),
     "tests/memory/run": (60, 1),

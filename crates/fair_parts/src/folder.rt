@@ -95,6 +95,11 @@ fn opened<R: ReadOnlyFiles + AllocGlobal>(
     }
 }
 
+/// Whether there is a file of this name in the folder that can be opened.
+pub fn has_file<R: ReadOnlyFiles + AllocGlobal>(rt: &R, folder: &str, name: &str) -> bool {
+    opened(rt, folder, name).is_ok()
+}
+
 /// Opens the file of each core, and that of the outside actor.
 pub fn part_files<R: ReadOnlyFiles + AllocGlobal>(
     rt: &R,

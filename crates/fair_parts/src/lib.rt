@@ -3,4 +3,4 @@
 
 mod folder;
 
-pub use folder::{gathered, house_in, part_files, unopened};
+pub use folder::{gathered, has_file, house_in, part_files, unopened};

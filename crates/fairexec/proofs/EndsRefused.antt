@@ -31,7 +31,10 @@ use Rattle.fairexec.specs.Answers.{AuditAnswer, HasJudgedText, HasPrinted, RunAn
 use Rattle.fairexec.specs.BadEnds.{EndsAreRefused, EndsIn, RunIn, ThreadsIn, list_writes}
 use Rattle.fairexec.specs.Ends.{EndsBy, status_unasked}
 use Rattle.fairexec.specs.Files.{IsUnopened, IsUnopenedScript}
-use Rattle.fairexec.specs.Parts.{JudgesAll, JudgesParts}
+use Rattle.text_feed.specs.declared.fault.FeedError.{FeedError}
+use Rattle.text_feed.specs.declared.fault.FeedError.TheVariants as feed
+use Rattle.fairexec.specs.Follows.{FollowsParts, HasPrintedFault, status_unread}
+use Rattle.fairexec.specs.Parts.{JudgesAll, JudgesParts, JudgesWhole}
 
 -- a verdict has a line
 written : (verdict : Verdict) → [] ≡ verdict_text verdict → ⊥
@@ -62,7 +65,8 @@ stays (Threads journal stats) old new result ends = cc ends.2.1
 stays (Audit false) old new result ends = cc ends.2.1
 stays (Audit true) old new result (inl ends) = cc ends.1.1
 stays (Audit true) old new result (inr ends) = cc ends.1.1
-stays Parts old new result ends = cc ends.1
+stays (Parts false) old new result ends = cc ends.1
+stays (Parts true) old new result ends = cc ends.1
 stays Journal old new result (inl ends) = cc ends.1.1
 stays Journal old new result (inr ends) = cc ends.1.1
 
@@ -139,10 +143,33 @@ unwritten_all : (all : List ℕ) → JudgesAll list_writes [] [] all status.Done
 unwritten_all all (inl judged) = unwritten_text judged.0 judged.2 judged.3 judged.4
 unwritten_all all (inr refused) = not_done_by refused.0 refused.2
 
+unwritten_whole : JudgesWhole list_writes [] [] {F = List ℕ} Some status.Done → ⊥
+unwritten_whole (inl all) = unwritten_all all.0 all.2
+unwritten_whole (inr refused) = not_done_by refused.0 refused.2
+
 unwritten_parts : JudgesParts list_writes [] [] {F = List ℕ} Some status.Done → ⊥
 unwritten_parts (inl sound) = unprinted_sound sound.1 sound.2 sound.3
-unwritten_parts (inr (inl all)) = unwritten_all all.0 all.2
-unwritten_parts (inr (inr refused)) = not_done_by refused.0 refused.2
+unwritten_parts (inr whole) = unwritten_whole whole
+
+-- a front that is lost isn't done
+unwritten_fault : (verdict : Verdict) (answer : AuditAnswer) → status.Done ≡ status_of answer → HasPrintedFault list_writes [] [] verdict answer → ⊥
+unwritten_fault verdict (Ok sound) is printed = written verdict printed.done.1
+unwritten_fault verdict (Err (Text line cause)) is printed = cc
+unwritten_fault verdict (Err Read) is printed = cc
+unwritten_fault verdict (Err Write) is printed = cc
+unwritten_fault verdict (Err Memory) is printed = cc
+
+not_read_by : (why : FeedError) → status.Done ≡ status_unread why → ⊥
+not_read_by feed.Read is = cc
+not_read_by feed.Memory is = cc
+not_read_by (feed.Faulty cause) is = cc
+
+unwritten_followed : FollowsParts list_writes [] [] {F = List ℕ} Some status.Done → ⊥
+unwritten_followed (inl sound) = unprinted_sound sound.1 sound.2 sound.3
+unwritten_followed (inr (inl (inl front))) = unwritten_fault front.0 front.2 front.3 front.4
+unwritten_followed (inr (inl (inr none))) = cc none.0
+unwritten_followed (inr (inr (inl whole))) = unwritten_whole whole
+unwritten_followed (inr (inr (inr unread))) = not_read_by unread.0 unread.1
 
 is_done : (all old new : List ℕ) (answer : RunAnswer) → HasPrinted list_writes all old new answer → IfOk answer (λ done. done ≡ true)
 is_done all old new (Ok done) printed = printed.done.0
@@ -190,6 +217,7 @@ ends_refused = record {
   sound_is_a_fault = λ source left judged. turned judged.text.done.verdict judged.text.done.answered judged.text.done.appends;
   fault_is_sound = λ source left judged. turned_back judged.text.done.verdict judged.text.done.answered judged.text.done.appends;
   parts_without_verdict = λ source ends. unwritten_parts ends.0;
+  followed_without_verdict = λ source ends. unwritten_followed ends.0;
   input_is_read = stays;
   unopened = unopened;
   unopened_script = unopened_script;

@@ -54,7 +54,8 @@ pub record EndsAreRefused : Type 0 where
   pub sound_is_a_fault : (source left : List ℕ) → JudgedIn source left [] (codes "sound\n") (Ok false) → ⊥
   pub fault_is_sound : (source left : List ℕ) → JudgedIn source left [] (codes "fault actor 0 note 1 rule 2\n") (Ok true) → ⊥
   -- parts are judged, and nothing is written
-  pub parts_without_verdict : (source : List ℕ) → EndsIn source source [] [] None Parts status.Done → ⊥
+  pub parts_without_verdict : (source : List ℕ) → EndsIn source source [] [] None (Parts false) status.Done → ⊥
+  pub followed_without_verdict : (source : List ℕ) → EndsIn source source [] [] None (Parts true) status.Done → ⊥
   -- a file is named, and the input is read
   pub input_is_read : (what : What) (old new : List ℕ) (result : Status) → EndsIn (1 ∷ []) [] old new (Some (codes "a")) what result → ⊥
   -- a file can't be opened, and all is done

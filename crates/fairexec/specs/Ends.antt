@@ -15,8 +15,9 @@ use Rattle.text_words.specs.declared.status.Status.TheVariants as status
 use Rattle.fairexec.specs.Answers.{AuditAnswer, Passed, RunAnswer, ThreadsAnswer}
 use Rattle.fairexec.specs.Bytes.{JudgesBytes, PrintsText}
 use Rattle.fairexec.specs.declared.ended.Ended.{Ended}
-use Rattle.fairexec.specs.declared.ended.Ended.TheVariants.{Ran, OnThreads, Judged, NoText, Differs}
+use Rattle.fairexec.specs.declared.ended.Ended.TheVariants.{Ran, OnThreads, Judged, NoText, Differs, Unread}
 use Rattle.fairexec.specs.Files.{Devices, Judges, Runs, RunsOnThreads}
+use Rattle.fairexec.specs.Follows.{FollowsParts, status_unread}
 use Rattle.fairexec.specs.Parts.{JudgesParts}
 
 module _ {R F S : Type 0} (devices : Devices R F S) (at : Passed R S) where
@@ -27,7 +28,8 @@ module _ {R F S : Type 0} (devices : Devices R F S) (at : Passed R S) where
   EndsFor file (Threads journal stats) result = (answer : ThreadsAnswer) × (result ≡ threads_status answer) × RunsOnThreads devices at file journal stats answer
   EndsFor file (Audit false) result = (answer : AuditAnswer) × (result ≡ status_of answer) × Judges devices at file answer
   EndsFor file (Audit true) result = JudgesBytes devices at file result
-  EndsFor file Parts result = JudgesParts devices.sink at.sink_old at.sink_new devices.file result × (at.source_new ≡ at.source_old)
+  EndsFor file (Parts false) result = JudgesParts devices.sink at.sink_old at.sink_new devices.file result × (at.source_new ≡ at.source_old)
+  EndsFor file (Parts true) result = FollowsParts devices.sink at.sink_old at.sink_new devices.file result × (at.source_new ≡ at.source_old)
   EndsFor file Journal result = PrintsText devices at file result
 
 -- the status of what came to this
@@ -37,6 +39,7 @@ status_ended (OnThreads answer) = threads_status answer
 status_ended (Judged answer) = status_of answer
 status_ended (NoText why) = bytes_status why
 status_ended (Differs actor note) = status.Memory
+status_ended (Unread why) = status_unread why.error
 
 -- the status of words that ask for nothing
 abbrev pub status_unasked : Unasked → Status

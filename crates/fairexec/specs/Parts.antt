@@ -31,9 +31,14 @@ module _ {S : Type 0} (sink : writing.Ghosts S) (old new : S) where
       ((all : List ℕ) × MakesText all bytes × (answer : AuditAnswer) × (result ≡ status_of answer) × HasJudgedText sink (Some all) old new answer × IfErr answer (text.IfRead ⊥))
       ⊎ ((why : BytesFault) × IfBytes (IsFault bytes) why × (result ≡ bytes_status why) × (new ≡ old))
 
-  -- the files tell sound journals, and that is printed; or all their bytes are judged; or a read failed or there is no memory, and nothing is written
+  -- all bytes of the files are judged; or a read failed or there is no memory, and nothing is written
+  abbrev pub JudgesWhole : {F : Type 0} → (F → Option (List ℕ)) → Status → Type 0
+  JudgesWhole file result =
+      ((bytes : List ℕ) × IsBytesOf file bytes × JudgesAll bytes result)
+      ⊎ ((why : BytesFault) × IsUnopened why × (result ≡ bytes_status why) × (new ≡ old))
+
+  -- the files tell sound journals, and that is printed; or all their bytes are judged
   abbrev pub JudgesParts : {F : Type 0} → (F → Option (List ℕ)) → Status → Type 0
   JudgesParts file result =
       (AreSoundFiles file × (answer : RunAnswer) × (result ≡ status_of answer) × HasPrinted sink (verdict_text Sound) old new answer)
-      ⊎ ((bytes : List ℕ) × IsBytesOf file bytes × JudgesAll bytes result)
-      ⊎ ((why : BytesFault) × IsUnopened why × (result ≡ bytes_status why) × (new ≡ old))
+      ⊎ JudgesWhole file result

@@ -8,7 +8,9 @@
 #![tactic(auto)]
 
 mod ended;
+mod follow;
 mod parts;
+mod tally;
 
 ghost use Rattle.std.specs.Prelude.{◌≡◌, ◌≢◌, Bool, true, Err, IfErr, IfOk, OnErr, OnOk, map, option_map, string_bytes};
 ghost use Rattle.std.specs.Io.KnownBytes.{Appends};
@@ -30,6 +32,7 @@ ghost use Rattle.text_words.specs.declared.status.Status.TheVariants as status;
 ghost use Rattle.text_words.specs.declared.fault.Fault.TheVariants as faults;
 
 use crate::ended::{Ended, told};
+use crate::follow::follow_parts;
 use crate::parts::audit_parts;
 use fair_args::{Console, ReadOnly, ReadOnlyFiles, Unasked, words_of};
 use fair_parts::unopened;
@@ -43,6 +46,7 @@ use std::io::ErrorKind;
 use std::process::ExitCode;
 use std::sync::Wait;
 use std::thread::Threads;
+use std::time::Clock;
 use text_bytes::{ByteSink, DeviceFault, Source, TextSource, flush, write_all};
 use text_journal::JournalCause;
 use text_parts::{BytesFault, text_of_parts};
@@ -51,13 +55,14 @@ use text_words::{Cause, Fault, Status};
 // Only this function has all rights of the system.
 fn main(rt: HostRuntime) -> ExitCode {
     let (console, system) = (Console::of(rt), ReadOnly::of(rt));
-    let status = program(&console, &system, words_of(&rt), &mut rt.reader());
+    let status = program(&console, &rt, &system, words_of(&rt), &mut rt.reader());
     ExitCode::from(status.code())
 }
 
 /// Does what the words of the command line ask for, and answers how it ended.
-fn program<C: Print + Eprint, R, I: Source>(
+fn program<C: Print + Eprint, K: Clock, R, I: Source>(
     console: &C,
+    clock: &K,
     rt: &R,
     words: Result<Vec<String>, ErrorKind>,
     input: &mut I,
@@ -68,6 +73,7 @@ where
     match words {
         Ok(words) => by_words(
             console,
+            clock,
             rt,
             words.as_slice(),
             input,
@@ -79,8 +85,9 @@ where
 
 /// Does what these words ask for, the first of which is the program's name. Without a file the input is read, and what is asked for is
 /// written to the output.
-fn by_words<C: Print + Eprint, R, I: Source, S: ByteSink>(
+fn by_words<C: Print + Eprint, K: Clock, R, I: Source, S: ByteSink>(
     console: &C,
+    clock: &K,
     rt: &R,
     words: &[String],
     input: &mut I,
@@ -94,12 +101,36 @@ where
         (fault_of our_app (map string_bytes words.now)) (asks_of what_named our_app (map string_bytes words.now)) result }
 {
     match parse(console, rt.alloc(), words) {
-        Ok(asked) => told(console, done(rt, asked.what, asked.file, input, output)),
+        Ok(asked) => told(
+            console,
+            followed_or_done(console, clock, rt, asked.what, asked.file, input, output),
+        ),
         Err(why) => not_done(console, why),
     }
 }
 
-/// Does what the command line asks for. Nothing here can write to standard error.
+/// Does what the command line asks for. Where journals are followed, standard error tells each second how far.
+fn followed_or_done<C: Eprint, K: Clock, R, I: Source, S: ByteSink>(
+    console: &C,
+    clock: &K,
+    rt: &R,
+    what: What,
+    file: Option<&str>,
+    input: &mut I,
+    output: &mut S,
+) -> Ended
+where
+    R: ReadOnlyFiles + AllocGlobal + Threads + Wait + Copy + Drop + Send + 'static,
+    ensures { EndsFor (record { source = I.Source; file = R.File.remaining; sink = S.ByteSink })
+        (record { source_old = input.old; source_new = input.new; sink_old = output.old; sink_new = output.new }) (option_map (λ path. path.now) file.entry) what (status_ended result) }
+{
+    if let What::Parts { follow: true } = what {
+        return follow_parts(console, clock, rt, file, output);
+    }
+    done(rt, what, file, input, output)
+}
+
+/// Does what the command line asks for, and follows nothing. Nothing here can write to standard error.
 fn done<R, I: Source, S: ByteSink>(
     rt: &R,
     what: What,
@@ -111,7 +142,7 @@ where
     R: ReadOnlyFiles + AllocGlobal + Threads + Wait + Copy + Drop + Send + 'static,
     ensures ends { EndsFor (record { source = I.Source; file = R.File.remaining; sink = S.ByteSink })
         (record { source_old = input.old; source_new = input.new; sink_old = output.old; sink_new = output.new }) (option_map (λ path. path.now) file.entry) what (status_ended result) }
-    ensures never { ((bytes : Bool) → what ≢ whats.Audit bytes) → what ≢ whats.Parts → status_ended result ≢ status.FaultFound }
+    ensures never { ((bytes : Bool) → what ≢ whats.Audit bytes) → ((follow : Bool) → what ≢ whats.Parts follow) → status_ended result ≢ status.FaultFound }
 {
     match what {
         What::Run { journal, stats } => Ended::Ran(run(rt, journal, stats, file, input, output)),
@@ -120,7 +151,7 @@ where
         }
         What::Audit { bytes: false } => Ended::Judged(audit(rt, file, input, output)),
         What::Audit { bytes: true } => audit_bytes(rt, file, input, output),
-        What::Parts => audit_parts(rt, file, output),
+        What::Parts { .. } => audit_parts(rt, file, output),
         What::Journal => journal(rt, file, input, output),
     }
 }

@@ -5,22 +5,23 @@
 //! same notes, they are sound. Otherwise the files are read one behind the other, and judged as their bytes are.
 
 ghost use Rattle.std.specs.Prelude.{◌≡◌, ◌⊎◌, Some};
+ghost use Rattle.fair_parts.specs.Folders.{TellsHouse};
 ghost use Rattle.judge_replay.specs.declared.reading.Found.TheVariants.{Sound};
 ghost use Rattle.text_parts.specs.Faults.{bytes_status};
 ghost use Rattle.text_words.specs.declared.status.Status.TheVariants as status;
 ghost use Rattle.fairexec.specs.Ends.{status_ended};
-ghost use Rattle.fairexec.specs.Parts.{AreSoundFiles, JudgesAll, JudgesParts};
+ghost use Rattle.fairexec.specs.Parts.{AreSoundFiles, JudgesAll, JudgesParts, JudgesWhole};
 
 use crate::ended::Ended;
 use crate::print;
 use fair_args::ReadOnlyFiles;
 use fair_parts::{gathered, house_in, part_files};
 use fairexec_report::audit_text;
-use judge_parts::judged_parts;
+use judge_parts::{few_places, judged_parts};
 use judge_replay::Found;
 use std::alloc::{AllocGlobal, Global};
 use text_bytes::{ByteSink, TextSource};
-use text_parts::parts::PartsCause;
+use text_parts::parts::{HouseNumbers, PartsCause};
 use text_parts::{BytesFault, text_of_parts};
 
 /// Judges the journals whose parts are in the folder, or in the current one.
@@ -31,31 +32,75 @@ pub(crate) fn audit_parts<R: ReadOnlyFiles + AllocGlobal, S: ByteSink>(
 ) -> Ended
     ensures { JudgesParts S.ByteSink output.old output.new R.File.remaining (status_ended result) }
 {
-    let folder = match folder {
-        Some(folder) => folder,
-        None => ".",
-    };
+    let folder = folder_in(folder);
     let found = found_in(rt, folder);
     if let Some(Found::Sound) = found {
         return Ended::Ran(print(b"sound\n", output));
     }
+    judge_whole(rt, folder, found, output)
+}
+
+/// The folder that is named, or the current one.
+pub(crate) fn folder_in(folder: Option<&str>) -> &str {
+    match folder {
+        Some(folder) => folder,
+        None => ".",
+    }
+}
+
+/// Judges all bytes of the folder, once this was found of them.
+pub(crate) fn judge_whole<R: ReadOnlyFiles + AllocGlobal, S: ByteSink>(
+    rt: &R,
+    folder: &str,
+    found: Option<Found>,
+    output: &mut S,
+) -> Ended
+    ensures { JudgesWhole S.ByteSink output.old output.new R.File.remaining (status_ended result) }
+{
     match gathered(rt, folder) {
         Ok(bytes) => judged(rt.alloc(), found, &bytes, output),
         Err(fault) => unjudged(found, fault),
     }
 }
 
-/// What the journals are that the files tell, if all can be read, each beside the others.
+/// What the journals are that the files tell, if all can be read, each beside the others. A house of few places is tried first: what it finds
+/// to differ may be a link that held more.
 fn found_in<R: ReadOnlyFiles + AllocGlobal>(rt: &R, folder: &str) -> Option<Found>
     ensures { result ≡ Some Sound → AreSoundFiles R.File.remaining }
 {
     let Ok(house) = house_in(rt, folder) else {
         return None;
     };
+    let few = few_places(house);
+    let found = found_with(rt, folder, house, few);
+    if few < house.cap && may_be_full(&found) {
+        return found_with(rt, folder, house, house.cap);
+    }
+    found
+}
+
+/// Whether a house found that journals differ.
+fn may_be_full(found: &Option<Found>) -> bool {
+    match found {
+        Some(Found::Differs { .. }) => true,
+        _ => false,
+    }
+}
+
+/// What the journals are by a house whose links have so many places.
+fn found_with<R: ReadOnlyFiles + AllocGlobal>(
+    rt: &R,
+    folder: &str,
+    house: HouseNumbers,
+    places: u16,
+) -> Option<Found>
+    requires { (head : R.File) × TellsHouse (R.File.remaining head) house }
+    ensures { result ≡ Some Sound → AreSoundFiles R.File.remaining }
+{
     let Ok(files) = part_files(rt, folder, house.cores) else {
         return None;
     };
-    match judged_parts(rt.alloc(), house, files) {
+    match judged_parts(rt.alloc(), house, places, files) {
         Ok(found) => Some(found),
         Err(_) => None,
     }
@@ -73,13 +118,24 @@ fn is_too_much(fault: BytesFault) -> bool {
     }
 }
 
+/// How it ends where so many notes of each actor were read, a house writes another than the last of this one, and no audit says what that means.
+pub(crate) fn differs(actor: u8, read: &[u64]) -> Ended
+    ensures { status_ended result ≡ status.Memory }
+{
+    let note = match read.get(usize::from(actor)) {
+        Some(count) => *count,
+        None => 0,
+    };
+    Ended::Differs { actor, note }
+}
+
 /// How it ends if the bytes aren't judged. If they are too many, the note is told at which a house writes another.
 fn unjudged(found: Option<Found>, fault: BytesFault) -> Ended
     ensures { (status_ended result ≡ bytes_status fault) ⊎ (status_ended result ≡ status.Memory) }
 {
     if is_too_much(fault) {
-        if let Some(Found::Differs { actor, note }) = found {
-            return Ended::Differs { actor, note };
+        if let Some(Found::Differs { actor, read }) = found {
+            return differs(actor, &read);
         }
     }
     Ended::NoText(fault)

@@ -22,6 +22,8 @@ asked_rows = record {
   audit_bytes = (refl, refl);
   parts = (refl, refl);
   parts_as_bytes = (refl, refl);
+  follow = (refl, refl);
+  follow_parts = (refl, refl);
   journal_text = (refl, refl);
 }
 
@@ -37,6 +39,7 @@ refused_rows = record {
   flag_of_audit = (refl, refl);
   bytes_of_run = (refl, refl);
   parts_of_journal = (refl, refl);
+  follow_of_run = (refl, refl);
   no_form = (refl, refl);
   help = (refl, refl);
   help_of_run = (refl, refl);

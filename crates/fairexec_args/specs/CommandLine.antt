@@ -17,11 +17,12 @@ threads_app = with_rule (with_rule (with_rule (new_app (codes "threads"))
     (flag_rule (codes "stats")))
     file_rule
 
--- `audit [--bytes] [--parts] [FILE]`
+-- `audit [--bytes] [--parts] [--follow] [FILE]`
 unfoldable pub audit_app : App
-audit_app = with_rule (with_rule (with_rule (new_app (codes "audit"))
+audit_app = with_rule (with_rule (with_rule (with_rule (new_app (codes "audit"))
     (flag_rule (codes "bytes")))
     (flag_rule (codes "parts")))
+    (flag_rule (codes "follow")))
     file_rule
 
 -- a flag that has to be there, `--name`

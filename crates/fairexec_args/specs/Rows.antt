@@ -48,9 +48,13 @@ pub record AreAsked : Type 0 where
   -- fairexec audit x --bytes: a flag may come behind the file here too
   pub audit_bytes : IsAsked (fairexec (codes "audit" ∷ codes "x" ∷ codes "--bytes" ∷ [])) (Audit true) (Some (codes "x"))
   -- fairexec audit --parts journals
-  pub parts : IsAsked (fairexec (codes "audit" ∷ codes "--parts" ∷ codes "journals" ∷ [])) Parts (Some (codes "journals"))
+  pub parts : IsAsked (fairexec (codes "audit" ∷ codes "--parts" ∷ codes "journals" ∷ [])) (Parts false) (Some (codes "journals"))
   -- fairexec audit --bytes --parts: parts are bytes anyway
-  pub parts_as_bytes : IsAsked (fairexec (codes "audit" ∷ codes "--bytes" ∷ codes "--parts" ∷ [])) Parts None
+  pub parts_as_bytes : IsAsked (fairexec (codes "audit" ∷ codes "--bytes" ∷ codes "--parts" ∷ [])) (Parts false) None
+  -- fairexec audit --follow journals: what is followed are parts
+  pub follow : IsAsked (fairexec (codes "audit" ∷ codes "--follow" ∷ codes "journals" ∷ [])) (Parts true) (Some (codes "journals"))
+  -- fairexec audit --parts --follow
+  pub follow_parts : IsAsked (fairexec (codes "audit" ∷ codes "--parts" ∷ codes "--follow" ∷ [])) (Parts true) None
   -- fairexec journal --text x
   pub journal_text : IsAsked (fairexec (codes "journal" ∷ codes "--text" ∷ codes "x" ∷ [])) Journal (Some (codes "x"))
 
@@ -74,6 +78,8 @@ pub record AreRefused : Type 0 where
   pub bytes_of_run : IsRefused (fairexec (codes "run" ∷ codes "--bytes" ∷ [])) (kind.UnknownArgument ∷ [])
   -- fairexec journal --text --parts x
   pub parts_of_journal : IsRefused (fairexec (codes "journal" ∷ codes "--text" ∷ codes "--parts" ∷ codes "x" ∷ [])) (kind.UnknownArgument ∷ [])
+  -- fairexec run --follow
+  pub follow_of_run : IsRefused (fairexec (codes "run" ∷ codes "--follow" ∷ [])) (kind.UnknownArgument ∷ [])
   -- fairexec journal x
   pub no_form : IsRefused (fairexec (codes "journal" ∷ codes "x" ∷ [])) (kind.MissingRequiredArgument ∷ [])
   -- fairexec --help

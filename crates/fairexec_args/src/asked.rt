@@ -4,7 +4,7 @@ ghost use Rattle.std.specs.Prelude.{◌≡◌};
 ghost use Rattle.clap.specs.Words.{found_of, rows_of};
 ghost use Rattle.fairexec_args.specs.Asks.{what_named};
 
-use crate::command::{AUDIT, BYTES, JOURNAL, PARTS, STATS, THREADS, command};
+use crate::command::{AUDIT, BYTES, FOLLOW, JOURNAL, PARTS, STATS, THREADS, command};
 use clap::{ArgMatches, Command};
 use fair_args::{Wanted, flag_is_given};
 use std::alloc::{AllocError, Global};
@@ -18,8 +18,8 @@ pub enum What {
     Threads { journal: bool, stats: bool },
     /// Its journals are judged. It says whether they are bytes.
     Audit { bytes: bool },
-    /// The parts in a folder are judged.
-    Parts,
+    /// The parts in a folder are judged. It says whether they are followed as they grow.
+    Parts { follow: bool },
     /// Its journals are bytes, and their text is printed.
     Journal,
 }
@@ -52,9 +52,12 @@ fn what_of(name: &str, found: &ArgMatches<'_>) -> What
     ensures { result ≡ what_named name.now (rows_of (found_of found.now)) }
 {
     if name == AUDIT {
-        // Parts are bytes, whether or not `--bytes` says so.
+        // What is followed are parts, and parts are bytes, whether or not `--parts` and `--bytes` say so.
+        if flag_is_given(found, FOLLOW) {
+            return What::Parts { follow: true };
+        }
         if flag_is_given(found, PARTS) {
-            return What::Parts;
+            return What::Parts { follow: false };
         }
         let bytes = flag_is_given(found, BYTES);
         return What::Audit { bytes };

@@ -38,6 +38,9 @@ pub const BYTES: &str = "bytes";
 /// The flag by which `audit` reads the parts in a folder.
 pub const PARTS: &str = "parts";
 
+/// The flag by which `audit` goes on as the parts in a folder grow.
+pub const FOLLOW: &str = "follow";
+
 /// The flag by which `journal` prints a text.
 const TEXT: &str = "text";
 
@@ -95,6 +98,7 @@ const AFTER_AUDIT: &str = "\
 Examples:
   fairexec run --journal examples/fair_shares.script | fairexec audit
   fairexec audit --parts journals
+  fairexec audit --follow journals
 
 The statistics of --stats behind a journal are no part of its text: audit refuses them.
 
@@ -196,7 +200,7 @@ fn threads_command<'a>(alloc: Global) -> Result<Command<'a>, AllocError>
     with_file(alloc, command, SCRIPT_HELP)
 }
 
-/// `audit [--bytes] [--parts] [FILE]`
+/// `audit [--bytes] [--parts] [--follow] [FILE]`
 #[tactic(auto, unfolding(crate::specs::CommandLine::audit_app))]
 fn audit_command<'a>(alloc: Global) -> Result<Command<'a>, AllocError>
     ensures app { IfOk result (λ command. app_of command ≡ spec.audit_app) }
@@ -219,6 +223,12 @@ fn audit_command<'a>(alloc: Global) -> Result<Command<'a>, AllocError>
         command,
         PARTS,
         "Reads the folder FILE, or else the current one: head, part0, part1, .. side by side",
+    )?;
+    let command = with_flag(
+        alloc,
+        command,
+        FOLLOW,
+        "Goes on as the parts grow, until there is a file end, and prints a line each second",
     )?;
     with_file(alloc, command, JOURNALS_HELP)
 }

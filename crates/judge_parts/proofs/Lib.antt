@@ -1,4 +1,5 @@
 pub mod Fresh
+pub mod Fronts
 pub mod HousesRefused
 pub mod Next
 pub mod Told

@@ -1,5 +1,5 @@
 -- Feeds of which one was asked for its next note.
-use Rattle.std.proofs.Common.{◌≡◌, ◌≢◌, ℕ, ◌≤◌, List, [], ◌∷◌, ◌++◌, length, set, Option, None, Some, refl, sym, ap, ◌∙◌, subst, ⊎_elim, arith, append-nil}
+use Rattle.std.proofs.Common.{◌≡◌, ◌≢◌, ℕ, ◌≤◌, List, [], ◌∷◌, ◌++◌, length, set, Option, None, Some, Result, Ok, Err, IfOk, refl, sym, ap, ◌∙◌, subst, ⊎_elim, arith, append-nil}
 use Rattle.std.specs.Prelude.{IfSome, slice_get}
 use Rattle.std.specs.Io.KnownBytes.{Consumes, IsAtEnd}
 use Rattle.std.proofs.KnownBytes.{Consumes-trans}
@@ -27,6 +27,14 @@ whole_source (Some bytes) (Some rest) got lost end = lost ∙ ap (λ (rest : Lis
 IfSome-weaker : {A : Type 0} (P Q : A → Type 0) → ((x : A) → P x → Q x) → (found : Option A) → IfSome found P → IfSome found Q
 IfSome-weaker P Q weaker None is = tt
 IfSome-weaker P Q weaker (Some x) is = weaker x is
+
+pub same_ok : {A E : Type 0} {one other : A} → ◌≡◌ {A = Result A E} (Ok one) (Ok other) → one ≡ other
+same_ok same = cc same
+
+-- a fact of what came to `Ok` is one of what was made of it
+pub IfOk-mapped : {A E F : Type 0} (was : Result A E) (now : Result A F) (P : A → Type 0) → ((x : A) → now ≡ Ok x → was ≡ Ok x) → IfOk was P → IfOk now P
+IfOk-mapped was (Ok x) P same holds = subst (λ (was : Result _ _). IfOk was P) (same x refl) holds
+IfOk-mapped was (Err e) P same holds = tt
 
 module _ {S : Type 0} where
   set_here : (feeds : List (FeedView S)) (place : ℕ) (was now : FeedView S) → slice_get feeds place ≡ Some was → slice_get (set feeds place now) place ≡ Some now

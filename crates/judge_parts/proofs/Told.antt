@@ -25,16 +25,15 @@ module _ {S : Type 0} (remaining : S → Option (List ℕ)) where
     abbrev told_together : Assembly ℕ
     told_together = record { cores = house.cores; cap = house.cap; burst = house.burst; journals = map told (range_with_len 0 (house.cores + 1)) }
 
-    has_told : HasTold house.cores house.cap house.burst told told_together
+    has_told : HasTold house.cores house.burst told told_together
     has_told = let journals = map told (range_with_len 0 (house.cores + 1)) in record {
       cores_are = refl;
-      cap_is = refl;
       burst_is = refl;
       many = length-map (range_with_len 0 (house.cores + 1)) told ∙ length-range_with_len 0 (house.cores + 1);
       each = λ actor known. unwrap_or-slice_get journals actor [] ∙ get_or-map-range_with_len told 0 (house.cores + 1) actor actor [] (omega (arith, known)) (omega arith);
     }
 
-    pub told_sound : ((assembly : Assembly ℕ) → HasTold house.cores house.cap house.burst told assembly → IsSound assembly) → ((actor : ℕ) → actor ≤ house.cores → TellsWhole remaining actor (told actor) (slice_get sources actor)) → TellSound house (map remaining sources)
+    pub told_sound : ((assembly : Assembly ℕ) → HasTold house.cores house.burst told assembly → IsSound assembly) → ((actor : ℕ) → actor ≤ house.cores → TellsWhole remaining actor (told actor) (slice_get sources actor)) → TellSound house (map remaining sources)
     told_sound sound whole = record {
       assembly = told_together;
       cores_are = refl;

@@ -1,2 +1,3 @@
 pub mod BadHouses
+pub mod Fronts
 pub mod Houses

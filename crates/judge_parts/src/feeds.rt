@@ -5,11 +5,19 @@ ghost use Rattle.judge_parts.specs.Houses.{has_ended, told_at};
 
 use base_sealed::History;
 use base_words::{ActorNo, Note};
-use judge_replay::Teller;
+use judge_replay::{Teller, Untold};
 use std::alloc::{AllocError, Global};
 use std::marker::Model;
 use text_bytes::Source;
 use text_feed::{Feed, FeedError};
+
+/// Why the journal of an actor can't be told on, behind so many of its notes.
+#[derive(Clone, Copy)]
+pub struct Unread {
+    pub actor: u8,
+    pub behind: u64,
+    pub error: FeedError,
+}
 
 /// A feed of each actor.
 #[derive(Drop)]
@@ -48,7 +56,7 @@ impl<S: Source + Drop> Feeds<S> {
 }
 
 impl<S: Source + Drop> Teller for Feeds<S> {
-    type Error = FeedError;
+    type Error = Unread;
 
     ghost From = { List S };
 
@@ -58,11 +66,22 @@ impl<S: Source + Drop> Teller for Feeds<S> {
 
     ghost ends = { λ feeds actor. has_ended S.remaining feeds actor };
 
-    fn next(&mut self, actor: ActorNo) -> Result<Option<Note<u64>>, FeedError> {
+    fn next(&mut self, actor: ActorNo) -> Result<Option<Note<u64>>, Untold<Unread>> {
         let place = actor.0 as usize;
         if place >= self.feeds.len() {
             return Ok(None);
         }
-        self.feeds[place].next()
+        match self.feeds[place].next() {
+            Ok(found) => Ok(found),
+            Err(error) => Err(Untold::Failed(Unread {
+                actor: actor.0,
+                behind: self.feeds[place].count(),
+                error,
+            })),
+        }
+    }
+
+    fn goes_on(&mut self, went: bool) -> bool {
+        went
     }
 }

@@ -2,8 +2,13 @@
 #![tactic(auto)]
 
 mod feeds;
+mod followed;
+mod front;
 pub mod laws;
+mod pace;
 mod sound;
 
-pub use feeds::Feeds;
-pub use sound::judged_parts;
+pub use feeds::{Feeds, Unread};
+pub use front::front_of_parts;
+pub use pace::Pace;
+pub use sound::{few_places, followed_parts, judged_parts};

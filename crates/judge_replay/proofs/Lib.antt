@@ -1,3 +1,4 @@
+pub mod Capacity
 pub mod Created
 pub mod Ended
 pub mod Houses

@@ -99,10 +99,10 @@ module _ (house : HouseRead) (whole : IsWhole house) where
       ∙ sym (ap (λ desk. desk.journal.notes) (desk_here actor here)))
       (cases_eq actor house.count)
 
-  pub read_assembly : (assembly : Assembly ℕ) → HasRead house assembly → IsAssemblyOf house.count house.cap house.burst (desk_at house) assembly
+  pub read_assembly : (assembly : Assembly ℕ) → HasRead house assembly → IsAssemblyOf house.count house.cap house.burst (desk_at house) (record assembly { cap = house.cap })
   read_assembly assembly has = record {
     cores_are = has.cores_are;
-    cap_is = has.cap_is;
+    cap_is = refl;
     burst_is = has.burst_is;
     count = has.many;
     each = λ actor known. has.each actor known ∙ all_read actor known;

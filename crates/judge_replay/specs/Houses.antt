@@ -45,10 +45,9 @@ pub record IsHouse (house : HouseRead) : Type 0 where
   pub outside_is : terms_of_desk house.outside.caller.desk ≡ record { actor = house.count; cores = house.count; cap = house.cap; burst = house.burst }
   pub grid : IsGrid house.count (all_ends house)
 
--- the assembly has what was read of each actor
+-- the assembly has what was read of each actor, however much its links may hold
 pub record HasRead (house : HouseRead) (assembly : Assembly ℕ) : Type 0 where
   pub cores_are : assembly.cores ≡ house.count
-  pub cap_is : assembly.cap ≡ house.cap
   pub burst_is : assembly.burst ≡ house.burst
   pub many : length assembly.journals ≡ house.count + 1
   pub each : (actor : ℕ) → actor ≤ house.count → journal_of actor assembly ≡ read_at actor house

@@ -12,10 +12,9 @@ abbrev pub with_next : Option (Note ℕ) → Journal ℕ → Journal ℕ
 with_next None told = told
 with_next (Some note) told = note ∷ told
 
--- the assembly has what was told of each actor of such a house
-pub record HasTold (cores cap burst : ℕ) (told : ℕ → Journal ℕ) (assembly : Assembly ℕ) : Type 0 where
+-- the assembly has what was told of each actor of such a house, however much its links may hold
+pub record HasTold (cores burst : ℕ) (told : ℕ → Journal ℕ) (assembly : Assembly ℕ) : Type 0 where
   pub cores_are : assembly.cores ≡ cores
-  pub cap_is : assembly.cap ≡ cap
   pub burst_is : assembly.burst ≡ burst
   pub many : length assembly.journals ≡ cores + 1
   pub each : (actor : ℕ) → actor ≤ cores → journal_of actor assembly ≡ told actor

@@ -42,6 +42,8 @@ pub struct Replay {
     sent: Vec<u64>,
     /// How many notes were read, by actor.
     counts: Vec<u64>,
+    /// 1 where the last of them is a pick, by actor, else 0.
+    picks: Vec<u64>,
 }
 
 impl Model for Replay {
@@ -59,6 +61,21 @@ fn place(sender: ActorNo, core: u8) -> usize
     ensures { result ≡ 16 * sender + core }
 {
     16 * sender.0 as usize + core as usize
+}
+
+/// The number at this place, 0 if there is none.
+fn number_at(numbers: &[u64], place: usize) -> u64 {
+    match numbers.get(place) {
+        Some(number) => *number,
+        None => 0,
+    }
+}
+
+fn is_pick(note: &Note<u64>) -> bool {
+    match note {
+        Note::Pick(..) => true,
+        _ => false,
+    }
 }
 
 /// The cores of a house that was just opened, of which nothing was read.
@@ -103,7 +120,10 @@ impl Replay {
         let (Ok(made), Ok(sent)) = (unread(alloc, opened), Vec::from_elem(alloc, 0, SENDS)) else {
             return Err(OpenError::Memory);
         };
-        let Ok(counts) = Vec::from_elem(alloc, 0, ACTORS) else {
+        let (Ok(counts), Ok(picks)) = (
+            Vec::from_elem(alloc, 0, ACTORS),
+            Vec::from_elem(alloc, 0, ACTORS),
+        ) else {
             return Err(OpenError::Memory);
         };
         Ok(Replay {
@@ -114,6 +134,7 @@ impl Replay {
             outside: OutsideReplay::of(outside),
             sent,
             counts,
+            picks,
         })
     }
 
@@ -128,21 +149,32 @@ impl Replay {
         }
     }
 
-    /// How many notes of this actor were read.
-    pub(crate) fn count(&self, actor: ActorNo) -> u64 {
-        match self.counts.get(usize::from(actor.0)) {
-            Some(count) => *count,
-            None => 0,
+    /// How many notes of each actor were read, and one more of this one. A pick that ends those of another is left out: it is sound once it is
+    /// followed.
+    pub(crate) fn counts_with(self, actor: u8) -> Vec<u64> {
+        let Replay {
+            mut counts,
+            picks,
+            ..
+        } = self;
+        for place in 0..counts.len() {
+            counts[place] = if place == usize::from(actor) {
+                counts[place].saturating_add(1)
+            } else {
+                counts[place].saturating_sub(number_at(&picks, place))
+            };
         }
+        counts
     }
 
     /// Counts a note that was read.
-    fn count_note(&mut self, actor: ActorNo)
+    fn count_note(&mut self, actor: ActorNo, note: &Note<u64>)
         ensures { self.new ≡ self.old }
     {
         let place = usize::from(actor.0);
-        if place < self.counts.len() {
+        if place < self.counts.len() && place < self.picks.len() {
             self.counts[place] = self.counts[place].saturating_add(1);
+            self.picks[place] = u64::from(is_pick(note));
         }
     }
 
@@ -203,7 +235,7 @@ impl Replay {
         }
         let told = self.read_now(actor, note);
         if told == Replayed::Taken {
-            self.count_note(actor);
+            self.count_note(actor, note);
             self.count_send(actor, note);
         }
         told

@@ -15,4 +15,4 @@ pub use ahead::Replayed;
 pub use cores::CoreReplay;
 pub use house::Replay;
 pub use reading::{Found, ReplayError, replays};
-pub use teller::Teller;
+pub use teller::{Teller, Untold};

@@ -1,20 +1,22 @@
 //! Journals are read side by side, each as far as the others let it.
 //!
-//! A note waits where it tells of an order or an outcome that no other journal told yet. Then the next actor is read on. In a round in which no
-//! actor went on, nothing would change: so either all journals have ended, or they are not what a house writes.
+//! A note waits where it tells of an order or an outcome that no other journal told yet. Then the next actor is read on. After each round over
+//! all actors the teller says whether to read on: it alone knows whether more may come. Where nothing does, and no actor went on, nothing would
+//! change: so either all journals have ended, or they are not what a house writes.
 
-ghost use Rattle.std.specs.Prelude.{◌≡◌, ◌≢◌, ℕ, ◌≤◌, [], None, Ok, IfOk};
+ghost use Rattle.std.specs.Prelude.{◌≡◌, ◌≢◌, ℕ, ◌≤◌, [], None, Ok, IfOk, OnErr};
 ghost use Rattle.base_words.specs.Assembly.{Assembly};
 ghost use Rattle.base_words.specs.Journal.{Journal};
 ghost use Rattle.base_words.specs.Sound.{IsSound};
 ghost use Rattle.judge_replay.specs.Houses.{HasRead, read_at};
 ghost use Rattle.judge_replay.specs.Tellers.{AreRead, HasTold, IfEnded, IsReadOf, ReadsOne, TellsOne, with_next};
 ghost use Rattle.judge_replay.specs.declared.reading.Found.TheVariants.{Sound};
+ghost use Rattle.judge_replay.specs.declared.reading.Round.TheVariants as rounds;
 ghost use Rattle.judge_replay.specs.declared.reading.Went.TheVariants as went;
 
 use crate::ahead::Replayed;
 use crate::house::Replay;
-use crate::teller::Teller;
+use crate::teller::{Teller, Untold};
 use base_words::{ActorNo, Note};
 use host_house::OpenError;
 use std::alloc::Global;
@@ -55,12 +57,12 @@ pub enum Round {
 }
 
 /// What journals are that were done again.
-#[derive(Clone, Copy)]
+#[derive(Drop)]
 pub enum Found {
     /// They are sound.
     Sound,
-    /// A house writes another note in place of this one of the actor, counted from 1. An audit tells what that means.
-    Differs { actor: u8, note: u64 },
+    /// So many notes of each actor were read, and a house writes another note than the last one of this actor. An audit tells what that means.
+    Differs { actor: u8, read: Vec<u64> },
     /// They end where a house goes on, or wait for each other. An audit tells what that means.
     Open,
 }
@@ -70,8 +72,9 @@ fn next_note<T: Teller>(
     teller: &mut T,
     waiting: &mut Option<Note<u64>>,
     actor: ActorNo,
-) -> Result<Option<Note<u64>>, T::Error>
+) -> Result<Option<Note<u64>>, Untold<T::Error>>
     ensures told { IfOk result (λ found. (read : Journal ℕ) → T.told teller.old actor ≡ with_next waiting.old read → T.told teller.new actor ≡ with_next found read) }
+    ensures untold { OnErr result ((read : Journal ℕ) → T.told teller.old actor ≡ with_next waiting.old read → T.told teller.new actor ≡ read) }
     ensures ends { result ≡ Ok None → T.ends teller.new actor }
     ensures none { waiting.new ≡ None }
     ensures one { TellsOne T.told T.ends T.from actor teller.old teller.new }
@@ -100,8 +103,11 @@ fn read_on<T: Teller>(
 {
     let mut some = false;
     for _turn in 0..u64::MAX {
-        let Some(note) = next_note(teller, waiting, actor)? else {
-            return Ok((Went::Ended, some));
+        let note = match next_note(teller, waiting, actor) {
+            Ok(Some(note)) => note,
+            Ok(None) => return Ok((Went::Ended, some)),
+            Err(Untold::Later) => return Ok((Went::Waits, some)),
+            Err(Untold::Failed(error)) => return Err(error),
         };
         match replay.read(actor, &note) {
             Replayed::Taken => some = true,
@@ -154,7 +160,16 @@ fn read_round<T: Teller>(
     })
 }
 
-/// What the journals are that are told. If a house writes them they are sound.
+/// Whether some notes were read in this round.
+fn went_on(round: Round) -> bool {
+    match round {
+        Round::Went => true,
+        _ => false,
+    }
+}
+
+/// What the journals are that are told. If a house writes them, whose links hold at most so many submissions, they are sound. Memory is taken for
+/// these alone, so a house of fewer places may be tried first: it writes the same unless a link held more.
 ///
 /// # Errors
 ///
@@ -162,16 +177,16 @@ fn read_round<T: Teller>(
 pub fn replays<T: Teller>(
     alloc: Global,
     cores: u8,
-    cap: u16,
+    places: u16,
     burst: u8,
     teller: &mut T,
 ) -> Result<Found, ReplayError<T::Error>>
     requires { (actor : ℕ) → T.told teller.old actor ≡ [] }
-    ensures sound { result ≡ Ok Sound → (assembly : Assembly ℕ) → HasTold cores cap burst (T.told teller.new) assembly → IsSound assembly }
+    ensures sound { result ≡ Ok Sound → (assembly : Assembly ℕ) → HasTold cores burst (T.told teller.new) assembly → IsSound assembly }
     ensures whole { result ≡ Ok Sound → (actor : ℕ) → actor ≤ cores → T.ends teller.new actor }
     ensures same { T.from teller.new ≡ T.from teller.old }
 {
-    let mut replay = match Replay::open(alloc, cores, cap, burst) {
+    let mut replay = match Replay::open(alloc, cores, places, burst) {
         Ok(replay) => replay,
         Err(OpenError::BadConfig) => return Err(ReplayError::BadConfig),
         Err(OpenError::Memory) => return Err(ReplayError::Memory),
@@ -180,24 +195,29 @@ pub fn replays<T: Teller>(
         return Err(ReplayError::Memory);
     };
     for _round in 0..u64::MAX {
-        match read_round(&mut replay, teller, &mut waiting, cores) {
-            Ok(Round::Ended) => return ended(alloc, replay),
-            Ok(Round::Went) => {}
-            Ok(Round::Stuck) => return Ok(Found::Open),
-            Ok(Round::Differs(actor)) => {
-                let note = replay.count(ActorNo(actor)).saturating_add(1);
-                return Ok(Found::Differs { actor, note });
-            }
+        let round = match read_round(&mut replay, teller, &mut waiting, cores) {
+            Ok(round) => round,
             Err(error) => return Err(ReplayError::Untold(error)),
+        };
+        if let Round::Differs(actor) = round {
+            let read = replay.counts_with(actor);
+            return Ok(Found::Differs { actor, read });
+        }
+        if !teller.goes_on(went_on(round)) {
+            return left(alloc, replay, round);
         }
     }
     Ok(Found::Open)
 }
 
-/// What journals are that were read to their end.
-fn ended<E>(alloc: Global, replay: Replay) -> Result<Found, ReplayError<E>>
-    ensures { result ≡ Ok Sound → (assembly : Assembly ℕ) → HasRead replay assembly → IsSound assembly }
+/// What journals are of which nothing more is read, after this round.
+fn left<E>(alloc: Global, replay: Replay, round: Round) -> Result<Found, ReplayError<E>>
+    ensures sound { result ≡ Ok Sound → (assembly : Assembly ℕ) → HasRead replay assembly → IsSound assembly }
+    ensures ended { result ≡ Ok Sound → round ≡ rounds.Ended }
 {
+    let Round::Ended = round else {
+        return Ok(Found::Open);
+    };
     match replay.is_sound(alloc) {
         Ok(true) => Ok(Found::Sound),
         Ok(false) => Ok(Found::Open),

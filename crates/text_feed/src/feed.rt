@@ -1,6 +1,6 @@
 //! Tells the notes of one actor's journal, one by one.
 
-ghost use Rattle.std.specs.Prelude.{◌≡◌, ◌++◌, ℕ, List, [], None, Ok, IfErr, IfOk, OnErr};
+ghost use Rattle.std.specs.Prelude.{◌≡◌, ◌++◌, ℕ, List, [], None, Ok, IfErr, IfOk, OnErr, length};
 ghost use Rattle.std.specs.Io.KnownBytes.{Consumes, IsAtEnd};
 ghost use Rattle.text_bytes.specs.Tries.{HasFailedSince};
 ghost use Rattle.text_feed.specs.Faults.{IfFaulty, IfRead};
@@ -58,6 +58,13 @@ impl<S: Source> Feed<S> {
             before: 0,
             told: History::new(),
         }
+    }
+
+    /// How many notes were told.
+    pub fn count(&self) -> u64
+        ensures { result ≡ length self.now.told }
+    {
+        self.before - (self.part.len() - self.at) as u64
     }
 
     /// The next note of the journal. None at the end of the source. A further call then asks the source again.

@@ -23,7 +23,7 @@ module _ (ends : Option (List ℕ) → What → Status → Type 0) (same : Type 
   ends_unasked (kind ∷ faults) asked why result reason is stays = record { why = why; reason = reason; ended = is; stays = stays }
 
 pub returns-in-Ok : goal.returns-in-Ok
-returns-in-Ok g c = record { ends = rw (c.told.ensures, c.in-Ok.ensures.faultless, c.in-Ok.ensures.asked) (inl c.done.ensures.ends) }
+returns-in-Ok g c = record { ends = rw (c.told.ensures, c.in-Ok.ensures.faultless, c.in-Ok.ensures.asked) (inl c.followed_or_done.ensures) }
 
 pub returns-in-Err : goal.returns-in-Err
 returns-in-Err g c =

@@ -1,7 +1,7 @@
 //! How an executor is made, runs and ends.
 
 use crate::barrier::Barrier;
-use crate::journal::{judge, parts, takers, Journal, Notes, Taker};
+use crate::journal::{self, judge, parts, takers, Journal, Notes, Taker};
 use crate::local::Job;
 use crate::pin::Pin;
 use crate::report::Report;
@@ -299,7 +299,7 @@ impl Builder {
         let newest = newest.filter_map(Result::transpose).collect::<Result<_, _>>()?;
         let journals = house.end(cores, outside).map_err(|(error, ..)| error)?;
         let (audit, text) = judge(journal, journals)?;
-        self.setup.takers.iter().flatten().try_for_each(Taker::end)?;
+        journal::end(journal, &self.setup.takers)?;
         Ok(Report { cores: shared.stats(), audit, journal: text, newest, parts: parts(journal, self.cores) })
     }
 

@@ -1,6 +1,7 @@
 //! The loop of a core: what was woken goes into its queues, the library tells what runs, and a core that has nothing to do sleeps.
 
 use crate::builder::Setup;
+use crate::journal::{Notes, Taker};
 use crate::local::{Job, Local, Sending};
 use crate::own::Own;
 use crate::shared::Port;
@@ -20,6 +21,9 @@ const TOLD_EVERY: u64 = 10_000_000;
 const TOLD_PART: u64 = 200;
 const TOLD_AT_LAST: u64 = 1_000_000_000;
 
+/// Notes that go to a file are there after so many nanoseconds, however few they are. The core wakes for that.
+const WRITTEN_EVERY: u64 = 1_000_000_000;
+
 /// How long a core sleeps if the library allows so much. Under `--cfg long_sleep`, by which `tests/rt` compiles, it is longer than any test waits,
 /// so that a ring that is lost shows.
 fn longest_sleep(allowed: Duration) -> Duration {
@@ -38,6 +42,9 @@ pub(crate) struct Driver<'a> {
     // When the statistics are told again, if something was done since then.
     tells: u64,
     is_behind: bool,
+    // When the notes are written, if they go to a file and some were made since the last time.
+    writes: u64,
+    is_unwritten: bool,
 }
 
 /// One run of a job.
@@ -87,7 +94,7 @@ fn tell_slow(local: &Local, queue: u32, setup: &Setup) {
 impl<'a> Driver<'a> {
     pub(crate) fn new(local: &'a Local, core: &'a mut Core<Job>, setup: &'a Setup) -> Driver<'a> {
         let own = Own::new(local.ready.len(), local.shared.places);
-        Driver { local, core, setup, own, tells: 0, is_behind: true }
+        Driver { local, core, setup, own, tells: 0, is_behind: true, writes: 0, is_unwritten: false }
     }
 
     /// Runs tasks until the executor closes, or until the core fails: then it tells the others, and hands back whatever is inside.
@@ -124,6 +131,11 @@ impl<'a> Driver<'a> {
                 self.tell(Port::try_tell);
                 self.tells = now + (TOLD_PART * (wall_clock() - now)).clamp(TOLD_EVERY, TOLD_AT_LAST);
             }
+            self.is_unwritten |= did && self.taker().is_some();
+            if self.is_unwritten && now >= self.writes {
+                self.core.hand_on(self.taker())?;
+                (self.writes, self.is_unwritten) = (now + WRITTEN_EVERY, false);
+            }
             let asks = now - polled >= reactor_every;
             if is_idle {
                 self.tell_quiet(has_told);
@@ -139,6 +151,11 @@ impl<'a> Driver<'a> {
             }
         }
         Ok(())
+    }
+
+    /// Who takes the notes, if they go to a file.
+    fn taker(&self) -> &'a Option<Taker> {
+        &self.setup.takers[self.local.number as usize]
     }
 
     /// One round. Whether anything happened.
@@ -178,7 +195,8 @@ impl<'a> Driver<'a> {
     fn sleep(&mut self, now: u64, has_told: bool, asks: bool) -> Result<(), Error> {
         let local = self.local;
         let (port, ending) = (&local.shared.ports[local.number as usize], &local.shared.ending);
-        let next = local.timers.next_after(now).unwrap_or(Duration::MAX);
+        let timer = local.timers.next_after(now).unwrap_or(Duration::MAX);
+        let next = if self.is_unwritten { timer.min(Duration::from_nanos(self.writes.saturating_sub(now))) } else { timer };
         let looks = || port.has_mail() || ending.is_closing() || ending.is_stopping() != has_told;
         self.core.wait_by(looks, |longest| if longest.is_zero() && !asks { Ok(()) } else { local.reactor.wait(longest_sleep(longest), next) })?;
         Ok(())
@@ -329,7 +347,7 @@ impl<'a> Driver<'a> {
         let local = self.local;
         let port = &local.shared.ports[local.number as usize];
         port.tasks.store(local.alive.borrow().len() as u64, Ordering::Relaxed);
-        if let Some(taker) = &self.setup.takers[local.number as usize] {
+        if let Some(taker) = self.taker() {
             port.journal_bytes.store(taker.bytes(), Ordering::Relaxed);
         }
         leaves(port, self.core);

@@ -3,8 +3,8 @@
 use crate::shared::lock;
 use crate::Error;
 use fairexec::linked::{self, Config, Core, Journals, Outside, Verdict};
-use std::fs::{create_dir_all, File};
-use std::io::{self, Write};
+use std::fs::{create_dir_all, remove_file, write, File};
+use std::io::{self, ErrorKind, Write};
 use std::path::PathBuf;
 use std::sync::{Arc, Mutex};
 
@@ -33,6 +33,9 @@ pub enum Journal {
     Last(usize),
     /// They go in bytes to the files `part0`, `part1` and so on in this folder, one for each core and the last for the outside actor. The file `head`
     /// has what stands before them. `fairexec audit --parts` judges the folder, in memory that stays the same however long the run was.
+    ///
+    /// A note is in its file a second later, or behind the run of a task that takes longer. The file `end` says that no more comes:
+    /// `fairexec audit --follow` ends then. If a core failed or a part couldn't be written, there is none.
     Parts(PathBuf),
     /// They are kept, audited at the end, and told by the [`Report`](crate::Report). The run ends with `JournalFull` once a core made as many notes as
     /// [`Builder::notes`](crate::Builder::notes) says.
@@ -95,18 +98,41 @@ impl Taker {
     /// # Errors
     ///
     /// If a part couldn't be written.
-    pub(crate) fn end(&self) -> Result<(), Error> {
+    fn end(&self) -> Result<(), Error> {
         lock(&self.0).failed.take().map_or(Ok(()), |error| Err(error.into()))
     }
 }
+
+/// The file that says that no more notes come.
+const END: &str = "end";
 
 /// Who takes the notes of each actor, or nobody if they go to no file. What stands before them is written.
 pub(crate) fn takers(journal: &Journal, config: &Config) -> Result<Vec<Option<Taker>>, Error> {
     let Journal::Parts(folder) = journal else { return Ok(vec![None; config.cores as usize + 1]) };
     create_dir_all(folder)?;
+    // That of a run before this one says nothing of what comes now.
+    match remove_file(folder.join(END)) {
+        Err(error) if error.kind() != ErrorKind::NotFound => return Err(error.into()),
+        _ => {}
+    }
     let files = parts(journal, config.cores);
-    std::fs::write(&files[0], config.head())?;
-    files[1..].iter().map(|it| Ok(Some(Taker::new(File::create(it)?)))).collect()
+    let takers = files[1..].iter().map(|it| Ok(Some(Taker::new(File::create(it)?)))).collect::<Result<_, Error>>()?;
+    // Who finds the head finds a file for each actor.
+    write(&files[0], config.head())?;
+    Ok(takers)
+}
+
+/// Tells that no more notes come, once all were taken.
+///
+/// # Errors
+///
+/// If a part couldn't be written. Then nothing is told.
+pub(crate) fn end(journal: &Journal, takers: &[Option<Taker>]) -> Result<(), Error> {
+    takers.iter().flatten().try_for_each(Taker::end)?;
+    match journal {
+        Journal::Parts(folder) => Ok(write(folder.join(END), "end\n")?),
+        Journal::Off | Journal::Last(_) | Journal::Keep => Ok(()),
+    }
 }
 
 /// The calls of a core and of the outside actor that journals want.
@@ -122,7 +148,7 @@ pub(crate) trait Notes {
         }
     }
 
-    /// Hands on what the journal has at the end.
+    /// Hands on what the journal has.
     fn hand_on(&mut self, taker: &Option<Taker>) -> Result<(), fairexec::Error> {
         let Some(taker) = taker else { return Ok(()) };
         let mut bytes = Vec::new();

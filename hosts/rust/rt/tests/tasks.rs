@@ -247,6 +247,19 @@ fn the_newest_notes_are_told() {
     assert!(all[0].lines().count() > 1500 && all[0].lines().all(|it| it.starts_with("0 ")), "{}", all[0]);
 }
 
+/// How many notes the parts of a core have, and how many bytes of one that isn't whole yet. A part says whose it is, how many notes came before, how
+/// many it has, and how many bytes these have.
+fn notes_in(core: usize, mut rest: &[u8]) -> (u64, usize) {
+    let mut notes = 0;
+    while rest.len() > 29 {
+        let [before, count, size] = [5, 13, 21].map(|at| u64::from_le_bytes(rest[at..at + 8].try_into().unwrap()));
+        assert!(rest[..5] == *b"fxp1".iter().chain(&[core as u8]).copied().collect::<Vec<_>>() && before == notes && count > 0);
+        let Some(behind) = rest.get(45 + size as usize..) else { break };
+        (notes, rest) = (notes + count, behind);
+    }
+    (notes, rest.len())
+}
+
 #[test]
 fn parts_have_every_note() {
     let folder = std::env::temp_dir().join(format!("fairexec-rt-parts-{}", std::process::id()));
@@ -259,15 +272,47 @@ fn parts_have_every_note() {
     let files: Vec<_> = report.parts.iter().map(|it| std::fs::read(it).unwrap()).collect();
     assert_eq!((files.len(), files[0].as_slice()), (4, b"fxh1\x02\x01\x00\x02".as_slice()));
     for core in 0..2 {
-        let (mut rest, mut notes) = (files[core + 1].as_slice(), 0);
-        assert!(report.cores[core].journal_bytes <= rest.len() as u64);
-        // A part says whose it is, how many notes came before, how many it has, and how many bytes these have.
-        while !rest.is_empty() {
-            let [before, count, size] = [5, 13, 21].map(|at| u64::from_le_bytes(rest[at..at + 8].try_into().unwrap()));
-            assert!(rest[..5] == *b"fxp1".iter().chain(&[core as u8]).copied().collect::<Vec<_>>() && before == notes && count > 0);
-            (notes, rest) = (notes + count, &rest[45 + size as usize..]);
-        }
-        assert!(notes > 1500);
+        let part = files[core + 1].as_slice();
+        assert!(report.cores[core].journal_bytes <= part.len() as u64);
+        let (notes, left) = notes_in(core, part);
+        assert!(notes > 1500 && left == 0);
+    }
+    std::fs::remove_dir_all(folder).unwrap();
+}
+
+// Core 1 makes fewer notes than go on at once, and sleeps then.
+#[test]
+fn parts_grow_while_a_core_sleeps_and_have_an_end_behind_the_run() {
+    let folder = std::env::temp_dir().join(format!("fairexec-rt-end-{}", std::process::id()));
+    let (part, end) = (folder.join("part1"), folder.join("end"));
+    // The second run finds what the first one left.
+    for _ in 0..2 {
+        let report = Executor::builder().cores(2).journal(Journal::Parts(folder.clone())).run(|here| {
+            let (part, end) = (part.clone(), end.clone());
+            async move {
+                assert!(!end.exists());
+                if here.core() == 1 {
+                    for _ in 0..100 {
+                        yield_now().await;
+                    }
+                    here.barrier().await;
+                    return here.barrier().await;
+                }
+                here.barrier().await;
+                let began = Instant::now();
+                while notes_in(1, &std::fs::read(&part).unwrap()).0 < 300 {
+                    assert!(began.elapsed() < Duration::from_secs(20));
+                    sleep(Duration::from_millis(20)).await;
+                }
+                assert!(!end.exists());
+                here.barrier().await;
+            }
+        });
+        let report = report.unwrap();
+        assert_eq!(std::fs::read_to_string(&end).unwrap(), "end\n");
+        assert_eq!(report.parts.len(), 4);
+        let (notes, left) = notes_in(1, &std::fs::read(&part).unwrap());
+        assert!((300..1024).contains(&notes) && left == 0, "{notes}");
     }
     std::fs::remove_dir_all(folder).unwrap();
 }

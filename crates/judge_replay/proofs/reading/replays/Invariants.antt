@@ -7,7 +7,6 @@ abbrev pub invariant-loop-round : goal.invariant-loop-round
 invariant-loop-round g l = record {
   read : AreRead (g.T.Teller.told l.teller) l.waiting.items l.replay;
   count : l.replay.count ≡ l.cores;
-  cap : l.replay.cap ≡ l.cap;
   burst : l.replay.burst ≡ l.burst;
   same : g.T.Teller.from l.teller ≡ g.T.Teller.from l.initial.teller;
 }

@@ -1,0 +1,20 @@
+mod Names
+pub mod Later
+pub mod Notes
+pub mod Beginnings
+pub mod Whole
+pub mod Inside
+pub mod DrainedFronts
+pub mod Clauses
+pub mod Alone
+pub mod AloneShut
+pub mod Numbers
+pub mod GivenOnce
+pub mod Entries
+pub mod LinkPlaces
+pub mod Links
+pub mod LostOutcomes
+pub mod LostFaults
+pub mod Going
+pub mod LostFronts
+pub mod OpenFronts
