@@ -1,2 +1,3 @@
 mod Reasons
 mod Refused
+mod Steps

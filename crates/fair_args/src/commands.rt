@@ -29,14 +29,12 @@ pub fn program_named<'a>(
     ensures app { IfOk result (λ command. app_of command ≡ program_app name.entry.now) }
     ensures whole { IfOk result (λ command. is_broken command ≡ false) }
 {
-    Ok(
-        Command::new(alloc, name)
-            .bin_name(name)?
-            .about(about)
-            .version(VERSION)
-            .subcommand_required(true)
-            .after_help(after),
-    )
+    Command::new(alloc, name)
+        .about(about)
+        .version(VERSION)
+        .subcommand_required(true)
+        .after_help(after)
+        .bin_name(name)
 }
 
 /// A subcommand of this name, as yet without an argument.

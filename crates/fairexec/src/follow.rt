@@ -1,8 +1,8 @@
 //! Journals are judged as the parts of a folder grow.
 //!
-//! They are done again on a house of cores, as far as they are there. Each second a line on standard error tells what was read. Once the folder has
-//! a file `end` no more comes: what is read then is judged as a whole. A note that no house writes is judged at once, beside the notes that were
-//! read of the other actors: if no later notes can make them sound, that is the verdict.
+//! They are done again on a house of cores, as far as they are there. Each second a line on standard error tells what was read, and that it is open:
+//! a house writes these notes so far. Once the folder has a file `end` no more comes: what is read then is judged as a whole. A note that no house
+//! writes is judged at once, beside the notes that were read of the other actors: if no later notes can make them sound, that is the verdict.
 
 ghost use Rattle.std.specs.Prelude.{◌≡◌, Ok, IfOk, IfSome, string_bytes};
 ghost use Rattle.judge_replay.specs.declared.reading.Found.TheVariants.{Sound};
@@ -36,6 +36,9 @@ use text_journal::JournalCause;
 use text_parts::BytesFault;
 use text_parts::parts::HouseNumbers;
 use text_words::Fault;
+
+/// The file that says that no more comes.
+const END: &str = "end";
 
 /// How long nothing is asked for where nothing new came.
 const PAUSE_MILLIS: u64 = 50;
@@ -122,9 +125,9 @@ impl<'a, C: Eprint, K: Clock, R> Watch<'a, C, K, R> {
             passed,
             self.cores,
         );
-        let outstanding = self.tally.outstanding();
+        let uncollected = self.tally.uncollected();
         let _ = eprintln!(self.console;
-            "{seconds} s: {notes} notes, {jobs} jobs ended, busy {busy} %, {outstanding} outstanding"
+            "{seconds} s: open, {notes} notes, {jobs} jobs ended, busy {busy} %, {uncollected} not collected"
         );
         self.told = now;
         self.busy = self.tally.busy;
@@ -142,7 +145,7 @@ impl<'a, C: Eprint, K: Clock, R: ReadOnlyFiles + AllocGlobal> Pace for Watch<'a,
         if went || ends {
             return went;
         }
-        self.over = has_file(self.rt, self.folder, "end");
+        self.over = has_file(self.rt, self.folder, END);
         if !self.over {
             self.clock.sleep(Duration::from_millis(PAUSE_MILLIS));
         }
@@ -164,13 +167,19 @@ pub(crate) fn follow_parts<C: Eprint, K: Clock, R: ReadOnlyFiles + AllocGlobal, 
     let Ok(house) = house_in(rt, folder) else {
         return judge_whole(rt, folder, None, output);
     };
-    match followed(console, clock, rt, folder, house) {
-        Ok(Found::Sound) => Ended::Ran(print(b"sound\n", output)),
-        Ok(Found::Open) => judge_whole(rt, folder, None, output),
-        Ok(Found::Differs { actor, read }) => judge_front(
-            clock, rt, folder, house, actor, &read, output,
-        ),
-        Err(why) => Ended::Unread(why),
+    let found = match followed(console, clock, rt, folder, house) {
+        Ok(found) => found,
+        Err(why) => return Ended::Unread(why),
+    };
+    match found {
+        Found::Sound => Ended::Ran(print(b"sound\n", output)),
+        Found::Open => judge_whole(rt, folder, None, output),
+        Found::Differs { actor, read } => {
+            if has_file(rt, folder, END) {
+                return judge_whole(rt, folder, Some(Found::Differs { actor, read }), output);
+            }
+            judge_front(clock, rt, folder, house, actor, &read, output)
+        }
     }
 }
 
@@ -283,7 +292,7 @@ fn later_front<K: Clock, R: ReadOnlyFiles + AllocGlobal>(
     ensures { IfSome result (AreFronts R.File.remaining) }
 {
     for _try in 0..MOST_TRIES {
-        let over = has_file(rt, folder, "end");
+        let over = has_file(rt, folder, END);
         let front = front_in(rt, folder, house, read, Some(actor));
         if over || front.is_some() {
             return front;

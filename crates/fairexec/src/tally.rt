@@ -45,8 +45,8 @@ impl Tally {
         }
     }
 
-    /// How many submissions have an outcome that wasn't collected, or none yet.
-    pub(crate) fn outstanding(&self) -> u64 {
+    /// How many submissions were sent whose outcome wasn't collected.
+    pub(crate) fn uncollected(&self) -> u64 {
         self.sent.saturating_sub(self.collected)
     }
 }

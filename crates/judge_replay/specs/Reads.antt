@@ -1,7 +1,8 @@
 -- What was read of journals that a house writes anew.
 use Rattle.std.specs.Prelude.{◌≡◌, ℕ, ◌+◌, ◌-◌, ◌≤◌, ◌∷◌, drop, length}
 use Rattle.base_words.specs.declared.note.Note.{Note}
-use Rattle.base_words.specs.Journal.{Journal}
+use Rattle.base_words.specs.Journal.{EachNote, Journal}
+use Rattle.base_words.specs.Lawful.{MayStand}
 use Rattle.note_journal.specs.Journals.{JournalView}
 use Rattle.actor_desk.specs.Submissions.{terms_of_desk}
 use Rattle.actor_core.specs.Recorded.{terms_at}
@@ -43,11 +44,16 @@ core_read core = read_of core.linked.recorded.journal core.told
 abbrev pub outside_read : OutsideRead → Journal ℕ
 outside_read outside = read_of outside.caller.desk.journal outside.told
 
--- a core made a step: its notes stand behind those that it had, and none was passed on
+-- each note of a core may stand where it stands
+abbrev pub IsLawfulCore : HostedView → Type 0
+IsLawfulCore view = EachNote (MayStand (terms_at view.recorded)) view.recorded.journal.notes
+
+-- a core made a step: its notes stand behind those that it had, and are lawful if those were, and none was passed on
 pub record GoesOn (old new : HostedView) : Type 0 where
   pub seat : IsSameSeat old.recorded new.recorded
   pub ends : SameEnds old.ends new.ends
   pub grows : Grows old.recorded.journal.notes new.recorded.journal.notes
+  pub lawful : IsLawfulCore old → IsLawfulCore new
 
 -- it is the same actor, at ends of the same links
 pub record IsSameCore (old new : HostedView) : Type 0 where

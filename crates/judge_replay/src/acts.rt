@@ -1,6 +1,5 @@
 //! The calls on a house of which notes tell.
 
-ghost use Rattle.actor_seat.specs.Linked.{StaysLinked};
 ghost use Rattle.host_house.specs.Outside.{StaysOutside};
 ghost use Rattle.judge_replay.specs.Reads.{GoesOn};
 
@@ -23,54 +22,54 @@ fn order_of(order: &Order<()>) -> Order<u64> {
 
 /// Settles the poll of the job that is out.
 fn settles(core: &mut Hosted, step: Step<u64>, time: u64)
-    ensures { StaysLinked core.old core.new }
+    ensures { GoesOn core.old core.new }
 {
     let _ = core.settle(step, time);
 }
 
 /// Goes on with the turn of the core, or begins one.
 fn goes_on(core: &mut Hosted)
-    ensures { StaysLinked core.old core.new }
+    ensures { GoesOn core.old core.new }
 {
     let _ = core.next();
 }
 
 /// Ends the open turn of the core, unless it may go on.
 fn ends_turn(core: &mut Hosted)
-    ensures { StaysLinked core.old core.new }
+    ensures { GoesOn core.old core.new }
 {
     let _ = core.follow();
 }
 
 /// Delivers the next order of this sender. Whether one shows.
 fn delivers(core: &mut Hosted, sender: ActorNo) -> bool
-    ensures { StaysLinked core.old core.new }
+    ensures { GoesOn core.old core.new }
 {
     core.deliver(sender).unwrap_or(true)
 }
 
 /// Collects the next outcome of this core. Whether one shows.
 fn collects(core: &mut Hosted, from: CoreNo) -> bool
-    ensures { StaysLinked core.old core.new }
+    ensures { GoesOn core.old core.new }
 {
     core.collect_one(from).unwrap_or(true)
 }
 
 /// Sends this order.
 fn sends(core: &mut Hosted, to: CoreNo, order: &Order<()>)
-    ensures { StaysLinked core.old core.new }
+    ensures { GoesOn core.old core.new }
 {
     let _ = core.submit(to, order_of(order));
 }
 
 fn redeems(core: &mut Hosted, name: JobId)
-    ensures { StaysLinked core.old core.new }
+    ensures { GoesOn core.old core.new }
 {
     drop(core.redeem(Ticket::named(name)));
 }
 
 fn detaches(core: &mut Hosted, name: JobId)
-    ensures { StaysLinked core.old core.new }
+    ensures { GoesOn core.old core.new }
 {
     let _ = core.detach(Ticket::named(name));
 }
@@ -97,7 +96,7 @@ pub(crate) fn core_acts(core: &mut Hosted, note: &Note<u64>) -> bool
 
 /// The same of a note that isn't of the opening.
 fn core_steps(core: &mut Hosted, note: &Note<u64>) -> bool
-    ensures { StaysLinked core.old core.new }
+    ensures { GoesOn core.old core.new }
 {
     match note {
         Note::Took(name, _) | Note::Back(name, _) | Note::Answered(name, _) => {

@@ -2,7 +2,7 @@
 
 ghost use Rattle.std.specs.Prelude.{◌≡◌, [], ◌∷◌, true, false};
 ghost use Rattle.host_core.specs.Hosted.{IsAtRest, IsHosted};
-ghost use Rattle.judge_replay.specs.Reads.{IsSameCore, Reads, core_read};
+ghost use Rattle.judge_replay.specs.Reads.{IsLawfulCore, IsSameCore, Reads, core_read};
 
 use crate::acts::core_acts;
 use crate::ahead::{Replayed, is_ahead, is_next};
@@ -44,6 +44,7 @@ impl CoreReplay {
     /// Makes the call of which the note tells, unless the core wrote notes that weren't read. Whether all showed that the call asks for.
     fn shows(&mut self, note: &Note<u64>) -> bool
         ensures same { IsSameCore self.old.linked self.new.linked }
+        ensures lawful { IsLawfulCore self.old.linked → IsLawfulCore self.new.linked }
         ensures read { core_read self.new ≡ core_read self.old }
     {
         is_ahead(self.hosted.journal(), self.told) || core_acts(&mut self.hosted, note)
@@ -65,6 +66,7 @@ impl CoreReplay {
     /// Forgets the notes that were read, if they are many, and all that the core keeps.
     fn tidy(&mut self)
         ensures same { IsSameCore self.old.linked self.new.linked }
+        ensures lawful { IsLawfulCore self.old.linked → IsLawfulCore self.new.linked }
         ensures read { core_read self.new ≡ core_read self.old }
     {
         if self.told < MOST || is_ahead(self.hosted.journal(), self.told) {
@@ -77,6 +79,7 @@ impl CoreReplay {
     /// Reads the next note of the core.
     pub fn read(&mut self, note: &Note<u64>) -> Replayed
         ensures same { IsSameCore self.old.linked self.new.linked }
+        ensures lawful { IsLawfulCore self.old.linked → IsLawfulCore self.new.linked }
         ensures reads { Reads note.now (core_read self.old) result (core_read self.new) }
     {
         if !self.shows(note) {

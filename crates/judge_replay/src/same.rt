@@ -10,32 +10,7 @@ use note_journal::same_name;
 fn same_order(one: &Order<()>, other: &Order<()>) -> bool
     ensures { IsTrue result → one.now ≡ other.now }
 {
-    match *one {
-        Order::Job(queue, _) => match *other {
-            Order::Job(that, _) => queue.0 == that.0,
-            _ => false,
-        },
-        Order::Create(shares) => match *other {
-            Order::Create(those) => shares.get() == those.get(),
-            _ => false,
-        },
-        Order::SetShares(queue, shares) => match *other {
-            Order::SetShares(that, those) => queue.0 == that.0 && shares.get() == those.get(),
-            _ => false,
-        },
-        Order::Close(queue, mode) => match *other {
-            Order::Close(that, other) => queue.0 == that.0 && mode == other,
-            _ => false,
-        },
-        Order::CloseCore(mode) => match *other {
-            Order::CloseCore(that) => mode == that,
-            _ => false,
-        },
-        Order::Wake(from, number) => match *other {
-            Order::Wake(that, other) => from.0 == that.0 && number == other,
-            _ => false,
-        },
-    }
+    *one == *other
 }
 
 /// Whether two notes of what crosses a link are one.

@@ -20,6 +20,11 @@ returns-in-Ok-matches_of-clause-asked g c =
     let words = map string_bytes c.args.words.now in
     sym (c.asked_by.ensures ∙ ap (option_map (asks_of_subcommand g.W.Wanted.wishes)) (c.in-Ok-matches_of.ensures.found ∙ ap (λ (app : App). subcommand_of app words) c.in-Ok.ensures.app))
 
+pub returns-in-Ok-matches_of-clause-faultless : goal.returns-in-Ok-matches_of-clause-faultless
+returns-in-Ok-matches_of-clause-faultless g c =
+    let words = map string_bytes c.args.words.now in
+    sym (ap (λ (app : App). fault_of app words) c.in-Ok.ensures.app) ∙ c.in-Ok-matches_of.ensures.faultless
+
 pub returns-in-Err-clause-why : goal.returns-in-Err-clause-why
 returns-in-Err-clause-why g c =
     let words = map string_bytes c.args.words.now in

@@ -9,4 +9,5 @@ returns-then-may_create c = record {
   seat = c.create.ensures.seat;
   ends = subst (SameEnds c.args.core.now.ends) (sym c.create.ensures.same) (ends_same c.args.core.now.ends);
   grows = created_grows _ c.args.core.now.recorded c.create.new.self.recorded _ c.create.ensures.creates;
+  lawful = λ _. c.create.ensures.hosted.recorded.kept.notes;
 }

@@ -1,0 +1,4 @@
+pub mod Oldest
+pub mod Judgements
+pub mod Own
+pub mod Refused

@@ -1,0 +1,236 @@
+//! What judges a core's notes, one after another.
+
+ghost use Rattle.std.specs.Prelude.{◌≡◌, ◌<◌, ◌∷◌, ◌++◌, [], None, Some, IfOk, IfSome, false, length, reverse, take, true};
+ghost use Rattle.judge_sink.specs.Judged.{IsJudged};
+ghost use Rattle.judge_sink.specs.Judging.{IsRead, MayWait, OpensJudge, ReadsOn};
+ghost use Rattle.base_words.specs.Commands as commands;
+ghost use Rattle.judge_sink.specs.Judged as spec;
+
+use crate::house::House;
+use base_sealed::History;
+use base_words::{Answer, CoreNo, Note};
+use host_house::OpenError;
+use std::alloc::Global;
+use std::marker::Model;
+
+/// What judges the notes of a core, and which it found right.
+#[derive(Drop)]
+pub(crate) struct Judge {
+    core: CoreNo,
+    house: House,
+    /// An answer whose effect is still to be told: which command it answers only the effect says.
+    waits: Option<Note<u64>>,
+    /// Whether a gate was shut. From then on no note is judged.
+    over: bool,
+    /// Whether the last note begins a step that the next one ends.
+    half: bool,
+    /// Whether no note was found wrong.
+    goes_on: bool,
+    /// The notes that were found right, the oldest first.
+    has: History<Note<u64>>,
+}
+
+impl Model for Judge {
+    ghost use Rattle.std.specs.Prelude.{reverse};
+    ghost use Rattle.judge_sink.specs.Judging.{IsJudge, JudgeView};
+
+    ghost Value = { JudgeView };
+
+    ghost view = { λ judge. record { terms = judge.house.terms; has = reverse judge.has.items; goes_on = judge.goes_on } };
+
+    ghost invariant = { λ judge. IsJudge judge.core judge.house judge.waits judge.over judge.half (reverse judge.has.items) judge.goes_on };
+}
+
+/// Whether a note tells of a submission to another core than this one.
+fn is_elsewhere(core: CoreNo, note: &Note<u64>) -> bool
+    ensures { result ≡ spec.is_elsewhere core note.now }
+{
+    match note {
+        Note::Sent(name, _)
+        | Note::Collected(name, _)
+        | Note::Redeemed(name, _)
+        | Note::Detached(name) => name.to.0 != core.0,
+        _ => false,
+    }
+}
+
+/// Whether a note tells that a gate was shut.
+fn is_shut(note: &Note<u64>) -> bool
+    ensures { result ≡ spec.is_shut note.now }
+{
+    matches!(note, Note::Shut(..))
+}
+
+/// Whether an answer has an effect.
+fn has_effect(answer: &Answer) -> bool
+    ensures { result ≡ commands.has_effect answer.now }
+{
+    matches!(
+        answer,
+        Answer::Created(_) | Answer::SharesSet | Answer::Closed | Answer::Woken
+    )
+}
+
+/// Whether a note is an answer that has an effect.
+fn is_awaited(note: &Note<u64>) -> bool
+    ensures { result ≡ true → MayWait (Some note.now) }
+{
+    match note {
+        Note::Answered(_, answer) => has_effect(answer),
+        _ => false,
+    }
+}
+
+/// Whether a note begins a step that the next one ends.
+fn is_half(note: &Note<u64>) -> bool
+    ensures { result ≡ spec.is_half note.now }
+{
+    match note {
+        Note::Pick(..) => true,
+        Note::Answered(_, answer) => has_effect(answer),
+        _ => false,
+    }
+}
+
+/// Reads a note that is judged. Whether a core writes it there, or it waits.
+fn read_on(house: &mut House, waits: &mut Option<Note<u64>>, note: &Note<u64>) -> bool
+    requires read { IsRead house.old waits.old }
+    ensures right { result ≡ true → ReadsOn note.now house.old waits.old house.new waits.new }
+    ensures terms { house.new.terms ≡ house.old.terms }
+{
+    if let Some(answer) = *waits {
+        *waits = None;
+        return house.reads(&answer, note) && house.reads(note, note);
+    }
+    if is_awaited(note) {
+        *waits = Some(*note);
+        return true;
+    }
+    house.reads(note, note)
+}
+
+impl Judge {
+    /// A judge that was told no note.
+    ///
+    /// # Errors
+    ///
+    /// `BadConfig` for a number that is out of its range, else `Memory`.
+    pub(crate) fn open(
+        alloc: Global,
+        core: CoreNo,
+        cores: u8,
+        cap: u16,
+        burst: u8,
+    ) -> Result<Self, OpenError>
+        ensures { OpensJudge core cores cap burst result }
+    {
+        match House::open(alloc, core, cores, cap, burst) {
+            Ok(house) => Ok(Judge {
+                core,
+                house,
+                waits: None,
+                over: false,
+                half: false,
+                goes_on: true,
+                has: History::new(),
+            }),
+            Err(error) => Err(error),
+        }
+    }
+
+    /// Whether no note was found wrong.
+    pub(crate) fn goes_on(&self) -> bool
+        ensures { result ≡ self.now.goes_on }
+    {
+        self.goes_on
+    }
+
+    /// Whether the next note is judged.
+    fn judges(&self, note: &Note<u64>) -> bool
+        requires { self.now.goes_on ≡ true }
+        ensures { result ≡ spec.is_judged self.now.terms.actor note.now self.now.has }
+    {
+        !(is_shut(note) || self.over) && !is_elsewhere(self.core, note)
+    }
+
+    /// Passes a note that isn't judged, unless it stands inside a step. Whether it has a place there.
+    fn passes(&mut self, note: &Note<u64>) -> bool
+        requires goes_on { self.old.goes_on ≡ true }
+        requires unjudged { spec.is_judged self.old.terms.actor note.now self.old.has ≡ false }
+        ensures right { result ≡ true → self.new ≡ record self.old { has = note.now ∷ self.old.has } }
+        ensures wrong { result ≡ false → self.new ≡ record self.old { goes_on = false } }
+    {
+        if self.half && !self.over {
+            self.goes_on = false;
+            return false;
+        }
+        self.over = self.over || is_shut(note);
+        self.half = is_half(note);
+        self.has = self.has.with(note);
+        true
+    }
+
+    /// Reads a note that is judged. Whether it is right.
+    fn reads(&mut self, note: &Note<u64>) -> bool
+        requires goes_on { self.old.goes_on ≡ true }
+        requires judged { spec.is_judged self.old.terms.actor note.now self.old.has ≡ true }
+        ensures right { result ≡ true → self.new ≡ record self.old { has = note.now ∷ self.old.has } }
+        ensures wrong { result ≡ false → self.new ≡ record self.old { goes_on = false } }
+    {
+        if !read_on(&mut self.house, &mut self.waits, note) {
+            self.goes_on = false;
+            return false;
+        }
+        self.half = is_half(note);
+        self.has = self.has.with(note);
+        true
+    }
+
+    /// Judges the next note. Whether it is right.
+    fn judge(&mut self, note: &Note<u64>) -> bool
+        requires { self.old.goes_on ≡ true }
+        ensures right { result ≡ true → self.new ≡ record self.old { has = note.now ∷ self.old.has } }
+        ensures wrong { result ≡ false → self.new ≡ record self.old { goes_on = false } }
+    {
+        if self.judges(note) {
+            self.reads(note)
+        } else {
+            self.passes(note)
+        }
+    }
+
+    /// Judges these notes as far as they are right.
+    fn find_fault(&mut self, notes: &[Note<u64>]) -> Option<usize>
+        requires { self.old.goes_on ≡ true }
+        ensures none { result ≡ None → self.new ≡ record self.old { has = reverse notes.now ++ self.old.has } }
+        ensures some { IfSome result (λ place. place < length notes.now) }
+        ensures before { IfSome result (λ place. self.new ≡ record self.old { has = reverse (take place notes.now) ++ self.old.has; goes_on = false }) }
+    {
+        for place in 0..notes.len() {
+            if !self.judge(&notes[place]) {
+                return Some(place);
+            }
+        }
+        None
+    }
+
+    /// The place of the first of these notes that is wrong. What was found right is lawful.
+    pub(crate) fn first_fault(&mut self, notes: &[Note<u64>]) -> Option<usize>
+        requires { self.old.goes_on ≡ true }
+        ensures none { result ≡ None → self.new ≡ record self.old { has = reverse notes.now ++ self.old.has } }
+        ensures some { IfSome result (λ place. place < length notes.now) }
+        ensures before { IfSome result (λ place. self.new ≡ record self.old { has = reverse (take place notes.now) ++ self.old.has; goes_on = false }) }
+        ensures lawful { IsJudged self.new.terms self.new.has }
+    {
+        let found = self.find_fault(notes);
+        self.is_lawful();
+        found
+    }
+
+    /// A fact alone: the notes that were found right are lawful.
+    fn is_lawful(&self)
+        ensures { IsJudged self.now.terms self.now.has }
+    {
+        let _judged = self.goes_on;
+    }
+}
