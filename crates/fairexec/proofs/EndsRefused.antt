@@ -166,8 +166,7 @@ not_read_by (feed.Faulty cause) is = cc
 
 unwritten_followed : FollowsParts list_writes [] [] {F = List ℕ} Some status.Done → ⊥
 unwritten_followed (inl sound) = unprinted_sound sound.1 sound.2 sound.3
-unwritten_followed (inr (inl (inl front))) = unwritten_fault front.0 front.2 front.3 front.4
-unwritten_followed (inr (inl (inr none))) = cc none.0
+unwritten_followed (inr (inl front)) = unwritten_fault front.0 front.2 front.3 front.4
 unwritten_followed (inr (inr (inl whole))) = unwritten_whole whole
 unwritten_followed (inr (inr (inr unread))) = not_read_by unread.0 unread.1
 

@@ -41,11 +41,9 @@ module _ {S : Type 0} (sink : writing.Ghosts S) (old new : S) where
     pub done : IfOk answer (λ sound. (sound ≡ false) × Appends (sink.contents old) (sink.contents new) (verdict_text verdict))
     pub failed : IfErr answer (λ fault. ((fault ≡ Write) × AppendsFront (sink.contents old) (sink.contents new) (verdict_text verdict) × HasFailedSince sink.tries sink.interrupts sink.fails old new) ⊎ ((fault ≡ Memory) × (new ≡ old)))
 
-  -- the files tell fronts that no later notes make sound, and their verdict is printed; or nothing is said, as there is no memory to say it
+  -- the files tell fronts that no later notes make sound, and their verdict is printed
   abbrev pub JudgesFront : {F : Type 0} → (F → Option (List ℕ)) → Status → Type 0
-  JudgesFront file result =
-      ((verdict : Verdict) × TellFault file verdict × (answer : AuditAnswer) × (result ≡ status_of answer) × HasPrintedFault verdict answer)
-      ⊎ ((result ≡ status.Memory) × (new ≡ old))
+  JudgesFront file result = (verdict : Verdict) × TellFault file verdict × (answer : AuditAnswer) × (result ≡ status_of answer) × HasPrintedFault verdict answer
 
   -- the files tell sound journals, and that is printed; or their fronts are judged, or all their bytes; or they couldn't be read on, and nothing is written
   abbrev pub FollowsParts : {F : Type 0} → (F → Option (List ℕ)) → Status → Type 0

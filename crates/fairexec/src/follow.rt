@@ -2,7 +2,8 @@
 //!
 //! They are done again on a house of cores, as far as they are there. Each second a line on standard error tells what was read, and that it is open:
 //! a house writes these notes so far. Once the folder has a file `end` no more comes: what is read then is judged as a whole. A note that no house
-//! writes is judged at once, beside the notes that were read of the other actors: if no later notes can make them sound, that is the verdict.
+//! writes is judged at once, beside the notes that were read of the other actors: if no later notes can make them sound, that is the verdict. If
+//! they can, the end tells: where memory was wanting a house writes otherwise, and all is sound.
 
 ghost use Rattle.std.specs.Prelude.{◌≡◌, Ok, IfOk, IfSome, string_bytes};
 ghost use Rattle.judge_replay.specs.declared.reading.Found.TheVariants.{Sound};
@@ -11,11 +12,11 @@ ghost use Rattle.judge_audit.specs.Verdicts.{IsVerdict};
 ghost use Rattle.judge_fronts.specs.Fronts.{IsLost};
 ghost use Rattle.fair_parts.specs.Folders.{TellsHouse};
 ghost use Rattle.fairexec_report.specs.VerdictTexts as spec;
-ghost use Rattle.fairexec.specs.Follows.{AreFronts, FollowsParts, HasPrintedFault, JudgesFront, TellFault};
+ghost use Rattle.fairexec.specs.Follows.{AreFronts, FollowsParts, HasPrintedFault, TellFault};
 ghost use Rattle.fairexec.specs.Parts.{AreSoundFiles};
 
 use crate::ended::Ended;
-use crate::parts::{differs, folder_in, judge_whole};
+use crate::parts::{folder_in, judge_whole, last_note};
 use crate::tally::Tally;
 use crate::{print, write_whole};
 use base_words::Note;
@@ -175,11 +176,36 @@ pub(crate) fn follow_parts<C: Eprint, K: Clock, R: ReadOnlyFiles + AllocGlobal, 
         Found::Sound => Ended::Ran(print(b"sound\n", output)),
         Found::Open => judge_whole(rt, folder, None, output),
         Found::Differs { actor, read } => {
-            if has_file(rt, folder, END) {
-                return judge_whole(rt, folder, Some(Found::Differs { actor, read }), output);
+            if let Some(verdict) = front_verdict(clock, rt, folder, house, actor, &read) {
+                return Ended::Judged(print_fault(rt.alloc(), verdict, output));
             }
-            judge_front(clock, rt, folder, house, actor, &read, output)
+            await_end(console, clock, rt, folder, actor, &read);
+            judge_whole(rt, folder, Some(Found::Differs { actor, read }), output)
         }
+    }
+}
+
+/// Waits for the file `end`. Of so many notes of each actor the last one of this actor is none that a house writes there, and yet it may be sound.
+fn await_end<C: Eprint, K: Clock, R: ReadOnlyFiles + AllocGlobal>(
+    console: &C,
+    clock: &K,
+    rt: &R,
+    folder: &str,
+    actor: u8,
+    read: &[u64],
+) {
+    if has_file(rt, folder, END) {
+        return;
+    }
+    let note = last_note(actor, read);
+    let _ = eprintln!(console;
+        "open until the end: a house writes another note than actor {actor} note {note}"
+    );
+    for _pause in 0..u64::MAX {
+        if has_file(rt, folder, END) {
+            return;
+        }
+        clock.sleep(Duration::from_millis(PAUSE_MILLIS));
     }
 }
 
@@ -244,25 +270,7 @@ fn unread(fault: BytesFault) -> Unread {
     }
 }
 
-/// Judges so many notes of each actor, of which the last one of this actor is none that a house writes there.
-fn judge_front<K: Clock, R: ReadOnlyFiles + AllocGlobal, S: ByteSink>(
-    clock: &K,
-    rt: &R,
-    folder: &str,
-    house: HouseNumbers,
-    actor: u8,
-    read: &[u64],
-    output: &mut S,
-) -> Ended
-    ensures { JudgesFront S.ByteSink output.old output.new R.File.remaining (status_ended result) }
-{
-    match front_verdict(clock, rt, folder, house, actor, read) {
-        Some(verdict) => Ended::Judged(print_fault(rt.alloc(), verdict, output)),
-        None => differs(actor, read),
-    }
-}
-
-/// The verdict of so many notes of each actor, if no later notes can make them sound.
+/// The verdict of so many notes of each actor, if no later notes can make them sound. Where no more comes all are to be judged.
 fn front_verdict<K: Clock, R: ReadOnlyFiles + AllocGlobal>(
     clock: &K,
     rt: &R,
@@ -273,6 +281,9 @@ fn front_verdict<K: Clock, R: ReadOnlyFiles + AllocGlobal>(
 ) -> Option<Verdict>
     ensures { IfSome result (TellFault R.File.remaining) }
 {
+    if has_file(rt, folder, END) {
+        return None;
+    }
     let front = match later_front(clock, rt, folder, house, actor, read) {
         Some(front) => front,
         None => front_in(rt, folder, house, read, None)?,

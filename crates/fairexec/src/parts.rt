@@ -118,15 +118,12 @@ fn is_too_much(fault: BytesFault) -> bool {
     }
 }
 
-/// How it ends where so many notes of each actor were read, a house writes another than the last of this one, and no audit says what that means.
-pub(crate) fn differs(actor: u8, read: &[u64]) -> Ended
-    ensures { status_ended result ≡ status.Memory }
-{
-    let note = match read.get(usize::from(actor)) {
+/// The number of the last of so many notes of each actor, of this one.
+pub(crate) fn last_note(actor: u8, read: &[u64]) -> u64 {
+    match read.get(usize::from(actor)) {
         Some(count) => *count,
         None => 0,
-    };
-    Ended::Differs { actor, note }
+    }
 }
 
 /// How it ends if the bytes aren't judged. If they are too many, the note is told at which a house writes another.
@@ -135,7 +132,8 @@ fn unjudged(found: Option<Found>, fault: BytesFault) -> Ended
 {
     if is_too_much(fault) {
         if let Some(Found::Differs { actor, read }) = found {
-            return differs(actor, &read);
+            let note = last_note(actor, &read);
+            return Ended::Differs { actor, note };
         }
     }
     Ended::NoText(fault)
