@@ -6,11 +6,12 @@
 //     auto sent = house.outside.submit(1, 0, [](fairexec::linked::cx<fairexec::linked::job> &) { return fairexec::linked::done(42); });
 //     ... if (sent.code == FX_OK) house.outside.wait_for(*sent.ticket) ...
 //
-// With C++20 a job may be a coroutine, `task`. A house keeps what its jobs are: a job moves to the core that it is submitted to, and is destroyed there when it is done. A core is used by one thread at a time, and goes to another as fairexec.h says.
+// With C++20 a job may be a coroutine, `task`. A house keeps what its jobs are: a job moves to the core that it is submitted to, and is destroyed there when it is done. A core is used by one thread at a time, and goes to another as fairexec.h says. Any thread reads its counts by `shared_stats`.
 #ifndef FAIREXEC_HOUSE_HPP
 #define FAIREXEC_HOUSE_HPP
 
 #include "fairexec_actor.hpp"
+#include "fairexec_board.h"
 
 namespace fairexec::linked {
 
@@ -35,6 +36,26 @@ public:
     const uint32_t queue;
     cx(actor<Job> &of, const fx_turn &turn) : of(of), name(turn.name), queue(turn.queue) {}
     actor<Job> *operator->() noexcept { return &of; }
+};
+
+// The counts of a core and of its queues by their numbers, as they were together at one time.
+struct counts {
+    fx_core_stats core;
+    std::vector<fx_queue_stats> queues;
+};
+
+// The counts of a core, for any thread: see `shared_stats` of `core`. It is cheap to copy, and may outlive the core and its house.
+class board {
+    std::shared_ptr<const fx_board> shared;
+
+public:
+    explicit board(std::shared_ptr<const fx_board> of) : shared(std::move(of)) {}
+    // What the core told last. The core waits for no reader. A reader waits while counts are written.
+    counts read() const {
+        auto found = std::make_unique<fx_counts>();
+        fx_board_read(shared.get(), found.get());
+        return {found->core, {found->queues, found->queues + found->core.queues}};
+    }
 };
 
 // A core. An exception of a job leaves run_turn: the job is then done with answer 0, and destroyed.
@@ -90,6 +111,18 @@ template <class Job, class Clock = std::chrono::steady_clock> class core : publi
     static constexpr std::chrono::nanoseconds longest{5000};
     static constexpr uint32_t most = 64;
 
+    // Where it leaves its counts for other threads, if somebody asked for them.
+    std::shared_ptr<fx_board> told_on;
+
+    // So many turns were made, or deliveries that may make some.
+    void count_turns(uint32_t turns) noexcept {
+        if (told_on && turns > 0) fx_board_count(told_on.get(), &this->seat, turns);
+    }
+    // The core has nothing to do.
+    void rest() noexcept {
+        if (told_on) fx_board_rest(told_on.get(), &this->seat);
+    }
+
     // Runs jobs, each from the end of the one before: the code of the last turn.
     template <class Run> fx_code run_turns(Run &run, bool &did) {
         times of;
@@ -105,11 +138,15 @@ template <class Job, class Clock = std::chrono::steady_clock> class core : publi
 
 public:
     using actor<Job>::actor;
+    core(core &&) noexcept = default;
+    ~core() { show_stats(); }
 
     // Runs the next job once, by `run`, which is called with the job and a cx: FX_OK, FX_PARKED, FX_DONE, FX_BACK, FX_IDLE, FX_JOURNAL_FULL or FX_SPENT.
     template <class Run> [[nodiscard]] fx_code run_turn(Run &&run) {
         times of;
-        return run_turn(run, of);
+        fx_code code = run_turn(run, of);
+        count_turns(code == FX_IDLE || code == FX_JOURNAL_FULL || code == FX_SPENT ? 0 : 1);
+        return code;
     }
 
     // Delivers an order of each actor, or so many. A closed core shuts the gates: its own once no job is inside, since jobs may have to be woken.
@@ -129,29 +166,33 @@ public:
                 did = true;
             }
         }
+        count_turns(did ? 1 : 0);
         return FX_OK;
     }
 
     // One round: it delivers what the links show, runs jobs for 5 us or as long as one run takes, and collects: FX_OK if anything happened, else FX_IDLE,
     // or FX_JOURNAL_FULL or FX_SPENT. If a round has several runs, each is measured from the end of the one before, so the time between them counts too.
     template <class Run> [[nodiscard]] fx_code round(Run &&run) {
-        bool did = false;
+        bool did = false, ran = false;
         uint64_t count = 0;
         fx_code code = deliver(did, most);
         if (code != FX_OK) return code;
-        code = run_turns(run, did);
+        code = run_turns(run, ran);
+        count_turns(ran ? most : 0);
         if (code == FX_JOURNAL_FULL || code == FX_SPENT) return code;
         code = this->collect(count);
         if (code != FX_OK) return code;
-        return did || count > 0 ? FX_OK : FX_IDLE;
+        return did || ran || count > 0 ? FX_OK : FX_IDLE;
     }
 
     // Rounds until the core is drained: FX_OK, or FX_JOURNAL_FULL or FX_SPENT. Behind these and behind an exception it may be called again.
     template <class Run> [[nodiscard]] fx_code run(Run &&by) {
+        // Other threads are told what it came to, also if an exception leaves it.
+        std::unique_ptr<core, void (*)(core *)> leaving(this, [](core *of) { of->show_stats(); });
         this->shared->run(this->own);
         while (!is_drained()) {
             fx_code code = round(by);
-            if (code == FX_IDLE) this->sleep();
+            if (code == FX_IDLE) sleep();
             else if (code != FX_OK) return code;
         }
         return FX_OK;
@@ -180,6 +221,31 @@ public:
         uint32_t code = fx_seat_stats_of_queue(&this->seat, queue, &stats);
         if (code != FX_OK) throw error(code);
         return stats;
+    }
+
+    // The counts of the core and of its queues, for any thread; who has the core calls this. From now on it tells them behind each 1024 turns or some
+    // more (see fairexec_board.h), where a round counts as 64; before it sleeps; as `run` is left; and before it ends or is destroyed: these stay. If
+    // nobody asked before the core ended, this throws `error` with FX_EMPTY.
+    [[nodiscard]] board shared_stats() {
+        if (told_on) return show_stats(), board(told_on);
+        auto made = std::make_shared<fx_board>();
+        uint32_t code = fx_board_open(made.get(), &this->seat);
+        if (code != FX_OK) throw error(code);
+        return board(told_on = std::move(made));
+    }
+    // Tells them now, if somebody asked for them. What ended or was moved from tells nothing.
+    void show_stats() noexcept {
+        if (told_on) fx_board_tell(told_on.get(), &this->seat);
+    }
+
+    // As those of `actor`. The counts are told before.
+    bool may_sleep() {
+        rest();
+        return actor<Job>::may_sleep();
+    }
+    void sleep(std::chrono::nanoseconds longest = std::chrono::nanoseconds::max()) {
+        rest();
+        actor<Job>::sleep(longest);
     }
 };
 
@@ -274,6 +340,7 @@ public:
         for (std::size_t each = ended; each < cores.size(); each++)
             if (!cores[each].is_drained()) return FX_NOT_DRAINED;
         for (; ended < cores.size(); ended++) {
+            cores[ended].show_stats();
             fx_code code = cores[ended].end(handle.at);
             if (code != FX_OK) return code;
         }

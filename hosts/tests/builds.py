@@ -48,7 +48,7 @@ SANITIZERS = {"": [], "address,undefined": ["-fsanitize=address,undefined", "-fn
 # The thread sanitizer doesn't see the library's links. This tells it what they order.
 WRAPPED = ",".join(f"--wrap=fx_seat_{it}" for it in ("submit", "deliver", "settle", "step", "collect"))
 LINKS = [HOSTS / "c/fairexec_tsan.c", f"-Wl,{WRAPPED}"]
-OF_HOUSE = ("house.c", "sharded.cpp", "wrapper_house.cpp", "wrapper_drops.cpp", "wrapper_callers.cpp", "house_threads.c", "house_callers.c")
+OF_HOUSE = ("house.c", "sharded.cpp", "wrapper_house.cpp", "wrapper_drops.cpp", "wrapper_callers.cpp", "wrapper_board.cpp", "house_threads.c", "house_callers.c", "house_board.c")
 
 
 # How an example tells what a queue of a core got, or both.

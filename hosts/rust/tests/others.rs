@@ -88,6 +88,28 @@ fn a_core_that_does_not_sleep_tells_its_counts() -> Result<(), Error> {
     Ok(())
 }
 
+// The job is done with no sleep before the end.
+#[test]
+fn a_core_that_ends_tells_its_counts() -> Result<(), Error> {
+    for is_run in [true, false] {
+        let (house, mut cores, mut outside): Opened<u64> = House::open(&config(1))?;
+        let stats = cores[0].shared_stats();
+        let _ticket = outside.submit(0, 0, 0).map_err(|(error, _)| error)?;
+        outside.close_all(Mode::Finish)?;
+        if is_run {
+            cores[0].run(|_, _| Step::Done(0))?;
+        }
+        while !cores[0].is_drained() {
+            cores[0].round(|_, _| Step::Done(0))?;
+        }
+        assert_eq!(stats.read().0.turns, u64::from(is_run));
+        drop(house.end(cores, outside).map_err(|(error, ..)| error)?);
+        let (core, queues) = stats.read();
+        assert_eq!((core.turns, core.closed, queues[0].done), (1, Some(Mode::Finish), 1));
+    }
+    Ok(())
+}
+
 /// Runs a core until a task is done and three wait, and leaves: it is dropped, or a panic ends its thread.
 fn leave(mut core: Core<Task>, panics: bool) {
     while core.stats().held < 3 || core.stats_of(0).expect("it is there").done == 0 {

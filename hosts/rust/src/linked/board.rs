@@ -67,7 +67,8 @@ pub struct Stats(Arc<Board>);
 
 impl Stats {
     /// The counts of the core and of its queues, by their numbers, as they were together at one time. A core that runs tells them behind each 1000
-    /// turns or some more, and one that has nothing to do before it sleeps.
+    /// turns or some more, or as many for each of more than 16 queues. One that has nothing to do tells them before it sleeps. Once the core has ended
+    /// or was dropped, its last counts stay.
     pub fn read(&self) -> (CoreStats, Vec<QueueStats>) {
         let words = self.0.read();
         let (core, queues) = words.split_at(CORE);
@@ -150,17 +151,28 @@ impl Shows {
         self.words.extend(words_of_core(core));
         self.words.extend(queues.flat_map(|it| words_of_queue(&it)));
         self.board.write(&self.words);
-        // To tell a queue's counts takes some turns' time, so a core with many queues does so less often.
-        self.every = 1024 + 16 * core.queues;
+        // To tell a queue's counts takes some turns' time, and some forty turns' beside more than 15 others. So a core with many queues does so less
+        // often.
+        self.every = if core.queues > 16 { 1024 * core.queues } else { 1024 + 16 * core.queues };
         self.left = self.every;
     }
 }
 
 #[cfg(test)]
 mod tests {
-    use super::{Shows, CORE, QUEUE};
+    use super::{raw, Shows, CORE, QUEUE};
     use std::sync::atomic::{AtomicBool, Ordering};
     use std::thread;
+
+    #[test]
+    fn a_core_with_many_queues_tells_its_counts_less_often() {
+        let mut shows = Shows::new();
+        for (queues, every) in [(1, 1_040), (16, 1_280), (17, 17_408)] {
+            let core = raw::fx_core_stats { queues, ..raw::fx_core_stats::default() };
+            shows.tell(&core, (0..queues).map(|_| raw::fx_queue_stats::default()));
+            assert!(!shows.count(every - 1) && shows.count(1), "{queues} queues");
+        }
+    }
 
     #[test]
     fn no_reader_finds_words_of_two_writes() {

@@ -218,6 +218,7 @@ impl<J> Core<J> {
                 self.sleep();
             }
         }
+        self.rest();
         Ok(())
     }
 
@@ -278,8 +279,8 @@ impl<J> Core<J> {
         CoreStats::of(&self.actor.enter().seat.stats())
     }
 
-    /// The counts of the core and of its queues, for any thread. From now on the core tells them behind each 1000 turns or some more, and before it
-    /// sleeps.
+    /// The counts of the core and of its queues, for any thread. From now on the core tells them behind each 1000 turns or some more, before it sleeps,
+    /// once it is drained, and before it ends or is dropped.
     pub fn shared_stats(&mut self) -> Stats {
         let stats = self.shows.get_or_insert_with(Shows::new).stats();
         self.show_stats();
@@ -303,9 +304,9 @@ impl<J> Core<J> {
         }
     }
 
-    /// The core has nothing to do.
+    /// The core has nothing to do, or is drained.
     #[inline]
-    fn rest(&mut self) {
+    pub(super) fn rest(&mut self) {
         if self.shows.as_ref().is_some_and(Shows::is_behind) {
             self.show_stats();
         }

@@ -137,6 +137,7 @@ impl<J> House<J> {
         if !cores.iter_mut().all(|core| core.actor.seat.has_ended() || core.is_drained()) {
             return Err((Error::NotDrained, self, cores, outside));
         }
+        cores.iter_mut().filter(|it| !it.actor.seat.has_ended()).for_each(Core::show_stats);
         let told = cores.iter_mut().map(|core| &mut core.actor.seat).chain([&mut outside.actor.seat]).try_for_each(|it| it.end(&mut self.handle.0));
         match told {
             Ok(()) => Ok(Journals { handle: self.handle }),

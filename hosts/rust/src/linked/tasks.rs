@@ -213,6 +213,7 @@ impl Core<Task> {
                 self.sleep();
             }
         }
+        self.rest();
         Ok(())
     }
 
