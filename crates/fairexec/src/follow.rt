@@ -270,7 +270,7 @@ fn unread(fault: BytesFault) -> Unread {
     }
 }
 
-/// The verdict of so many notes of each actor, if no later notes can make them sound. Where no more comes all are to be judged.
+/// The verdict of so many notes of each actor, if no later notes can make them sound. None if no more comes: then all are to be judged.
 fn front_verdict<K: Clock, R: ReadOnlyFiles + AllocGlobal>(
     clock: &K,
     rt: &R,

@@ -1,4 +1,4 @@
--- Where a link's list is told as far as a line, a fault of the second rule at that line is certain.
+-- A fault of the second rule is certain if the link's list is told as far as its line.
 use Rattle.judge_fronts.proofs.Names.{accepted_orders, append_assoc, arith, Assembly, at_place, Bool, collected_outcomes, CollectionTold, cond, Continues, delivered_names, DeliveryTold, eq-eqb, eqb-true, false, first_under, given_outcomes}
 use Rattle.judge_fronts.proofs.Names.{HasOrder, inl, inr, is_some, IsPrefix, IsSound, IsSpelled, IsSpelledNote, JobId, Journal, journal_of, length, LinksOff, List, list_told, map-append, OutcomeNote, name_delivered, names_of, None, Note}
 use Rattle.judge_fronts.proofs.Names.{ap, Option, OrderTold, outcome_collected, refl, same_as_itself, same_name, Some, StandsInOrder, subst, sym, terms_of, true, TurnsOff, with_last, ℕ, [], ◌++◌, ◌-◌, ◌<◌, ◌==◌, ◌∙◌, ◌∷◌, ◌≡◌, ◌≤◌}

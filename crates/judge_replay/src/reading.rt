@@ -61,7 +61,7 @@ pub enum Round {
 pub enum Found {
     /// They are sound.
     Sound,
-    /// So many notes of each actor were read, and a house writes another note than the last one of this actor. An audit tells what that means.
+    /// A house writes another note than the last one that was read of this actor, where `read` counts those of each. An audit tells what that means.
     Differs { actor: u8, read: Vec<u64> },
     /// They end where a house goes on, or wait for each other. An audit tells what that means.
     Open,

@@ -1,4 +1,8 @@
 //! What judges a core's notes, one after another.
+//!
+//! A note goes one of three ways: it is passed unjudged, if it tells of a submission to another core or stands behind a gate that was shut; it waits,
+//! if it is an answer whose command the next note tells; or it is read on the core of a house. What was found right stands in `has`, for the
+//! proof alone. At the first wrong note the core has gone on, so nothing is judged from then on.
 
 ghost use Rattle.std.specs.Prelude.{◌≡◌, ◌<◌, ◌∷◌, ◌++◌, [], None, Some, IfOk, IfSome, false, length, reverse, take, true};
 ghost use Rattle.judge_sink.specs.Judged.{IsJudged};

@@ -4,7 +4,7 @@
 
 use base_words::{ActorNo, Answer, Envelope, JobId, Note, Order, QueueNo, Reason, Shares};
 
-/// The last queue that there may be. Where it is there, no order is answered that its queue isn't.
+/// The last queue that there may be. If it is there, no order is answered that its queue isn't.
 const LAST_QUEUE: QueueNo = QueueNo(255);
 
 /// What the notes told of closings.
