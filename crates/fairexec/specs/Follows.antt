@@ -5,6 +5,7 @@ use Rattle.base_words.specs.Assembly.{Assembly}
 use Rattle.judge_audit.specs.Verdicts.{IsVerdict}
 use Rattle.judge_audit.specs.declared.judge.Verdict.{Verdict}
 use Rattle.judge_audit.specs.declared.judge.Verdict.TheVariants.{Sound}
+use Rattle.fair_parts.specs.Folders.{TellsHouse}
 use Rattle.judge_fronts.specs.Fronts.{IsLost}
 use Rattle.judge_parts.specs.Fronts.{TellFronts}
 use Rattle.text_bytes.specs.Tries.{HasFailedSince}
@@ -21,13 +22,20 @@ use Rattle.fairexec_report.specs.VerdictTexts.{verdict_text}
 use Rattle.fairexec.specs.Answers.{AuditAnswer, HasPrinted, RunAnswer}
 use Rattle.fairexec.specs.Parts.{AreSoundFiles, JudgesWhole}
 
--- files were opened: each begins with parts that tell the first notes of an actor
-abbrev pub AreFronts : {F : Type 0} → (F → Option (List ℕ)) → Assembly ℕ → Type 0
-AreFronts {F} file front = (house : HouseNumbers) × (opened : List F) × TellFronts house (map file opened) front
+-- files were opened: each begins with parts that tell the first notes of an actor of this house
+abbrev pub AreFronts : {F : Type 0} → (F → Option (List ℕ)) → HouseNumbers → Assembly ℕ → Type 0
+AreFronts {F} file house front = (opened : List F) × TellFronts house (map file opened) front
 
--- the files tell fronts that no later notes make sound, and this is their verdict
-abbrev pub TellFault : {F : Type 0} → (F → Option (List ℕ)) → Verdict → Type 0
-TellFault file verdict = (front : Assembly ℕ) × AreFronts file front × IsLost front × IsVerdict front verdict
+module _ {F : Type 0} (file : F → Option (List ℕ)) where
+  -- one file has the numbers of a house, and others tell fronts of its actors; no later notes make these sound, and this is their verdict
+  pub record TellFault (verdict : Verdict) : Type 0 where
+    pub head : F
+    pub house : HouseNumbers
+    pub numbers : TellsHouse (file head) house
+    pub front : Assembly ℕ
+    pub fronts : AreFronts file house front
+    pub lost : IsLost front
+    pub verdict_is : IsVerdict front verdict
 
 -- the status of parts that couldn't be read on
 abbrev pub status_unread : FeedError → Status

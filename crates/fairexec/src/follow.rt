@@ -279,6 +279,7 @@ fn front_verdict<K: Clock, R: ReadOnlyFiles + AllocGlobal>(
     actor: u8,
     read: &[u64],
 ) -> Option<Verdict>
+    requires { (head : R.File) × TellsHouse (R.File.remaining head) house }
     ensures { IfSome result (TellFault R.File.remaining) }
 {
     if has_file(rt, folder, END) {
@@ -300,7 +301,7 @@ fn later_front<K: Clock, R: ReadOnlyFiles + AllocGlobal>(
     actor: u8,
     read: &[u64],
 ) -> Option<Assembly>
-    ensures { IfSome result (AreFronts R.File.remaining) }
+    ensures { IfSome result (AreFronts R.File.remaining house) }
 {
     for _try in 0..MOST_TRIES {
         let over = has_file(rt, folder, END);
@@ -321,7 +322,7 @@ fn front_in<R: ReadOnlyFiles + AllocGlobal>(
     read: &[u64],
     further: Option<u8>,
 ) -> Option<Assembly>
-    ensures { IfSome result (AreFronts R.File.remaining) }
+    ensures { IfSome result (AreFronts R.File.remaining house) }
 {
     let Ok(files) = part_files(rt, folder, house.cores) else {
         return None;
