@@ -1,6 +1,6 @@
 //! A job, and a job after one poll.
 
-ghost use Rattle.std.specs.Prelude.{◌≡◌, false};
+ghost use Rattle.std.specs.Prelude.{◌≡◌, ℕ, IfSome, None, Option, Some, false};
 ghost use Rattle.base_jobs.specs.Meanings.{Meaning, IsMeaning};
 ghost use Rattle.base_jobs.specs.Steps.{IfDone, IfUndone, OwesAt, OwesOn, OwesOnce, is_done_step};
 
@@ -31,6 +31,9 @@ pub trait Task: Drop {
     /// What the job means: its task, whether it has answered, what a poll needs and owes, and which answers the task may have.
     ghost meaning: { Meaning Self Self.Out };
 
+    /// For how long it sleeps where its last poll parked it, if it does.
+    ghost sleeps: { Self → Option ℕ } = { λ _. None };
+
     /// Whether it has answered, and must not be polled again.
     fn is_done(&self) -> bool
         ensures { result ≡ meaning.done self.now };
@@ -38,6 +41,14 @@ pub trait Task: Drop {
     /// The nanoseconds that its last poll states of itself. When it states none, whoever polls tells the time.
     fn told(&self) -> Option<u64>
         ensures { result ≡ meaning.says self.now };
+
+    /// For how long it sleeps, in nanoseconds, if its last poll parked it: its worker wakes it that long after the poll or a little later,
+    /// unless a wake comes first. When it states none, it is parked until a wake comes.
+    fn sleeps(&self) -> Option<u64>
+        ensures { IfSome result (λ time. sleeps self.now ≡ Some time) }
+    {
+        None
+    }
 
     // To have the same task is an equivalence; jobs of one task have the same answers, owe the same polls, and can be polled alike.
     ghost laws: { IsMeaning meaning };

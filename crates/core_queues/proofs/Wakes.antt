@@ -1,5 +1,6 @@
 -- What a wake does: a parked job that was found comes to the line of its queue, and of one that waits the wake is kept.
 use Rattle.core_queues.proofs.Words.{ap, Appends, AreAtRest, AreFound, arith, awake, Bool, cases_lt, ChangesLine, false, get, get_or_past, held_count, inl, inr, is_some, IsAtRest, IsKept, JobId, KeepsWake, KeepsWakeOf, key_at, LeavesSeat}
+use Rattle.core_queues.proofs.Words.{IsParkedAs, WaitsAs}
 use Rattle.core_queues.proofs.Words.{length, Line, line_at, List, map, map-append, MovesOut, name_at, Names, no_queue, parked_counts, parked_keys, Queue, queue_at, QueuesView, refl, ParkedAt, seat_at, set, shown, shown_parked, Slab, slab_len}
 use Rattle.core_queues.proofs.Words.{Some, subst, suc, sym, true, Waiting, waiting_of, WakesParked, ℕ, [], ◌++◌, ◌+◌, ◌-◌, ◌<◌, ◌∙◌, ◌∷◌, ◌≡◌, ◌≤◌, ◌⊎◌}
 use Rattle.core_queues.specs.View.{Line as Says, Parks as Parked}
@@ -215,3 +216,39 @@ module _ {J : Type 0} {room line_places : ℕ} {old : Slab (Waiting J)} {queues 
       subst (λ b. (index : ℕ) × (queue < length queues) × FindsAt old (line_at queues (parks queue)) name (record { key = key; index = index; before = b })) told.2
       (subst (λ q. (index : ℕ) × (q < length queues) × FindsAt old (line_at queues (parks q)) name (record { key = key; index = index; before = (seat_at seats key).before })) told.1
       (finds_parked names seats name key kept found is told.0))
+
+module _ {J : Type 0} {old : Slab (Waiting J)} (found : Found) (name : JobId) (waiting : Waiting J) (at : get old found.key ≡ Some waiting) where
+  -- the entry that was found has the name
+  is_named : (line : Line) → FindsAt old line name found → waiting.name ≡ name
+  is_named line finds = ap (λ (w : Waiting J). w.name) (one_entry (get old found.key) waiting finds.waiting at finds.there) ∙ finds.named
+
+module _ {J : Type 0} (room : ℕ) (old : Slab (Waiting J)) (queues : List Queue) (queue : ℕ) (found : Found) (name : JobId) (waiting : Waiting J) (at : get old found.key ≡ Some waiting) where
+  -- a caller sees the parked job that was found
+  pub IsParkedAs-found : FindsAt old (line_at queues (parks queue)) name found → IsParkedAs (alone room old queues) name waiting.job
+  IsParkedAs-found finds =
+      let line = line_at queues (parks queue) in
+      let before = before_place old line found.index in
+      let behind = behind_place old line found.index (line.count - suc found.index) in
+      record {
+        queue = queue;
+        before = map shown_parked before;
+        behind = map shown_parked behind;
+        is_there = parked_of-view room old queues queue ∙ ap (map shown_parked) (says-at old line found.index (line.count - suc found.index) found.key waiting (around line found finds.stands.within) finds.stands.at at)
+            ∙ map-append shown_parked before (shown (Some waiting) ++ behind) ∙ ap (λ n. map shown_parked before ++ (n, waiting.job) ∷ map shown_parked behind) (is_named found name waiting at line finds);
+      }
+
+  -- a caller sees the job that was found and waits
+  pub WaitsAs-found : FindsAt old (line_at queues (waits queue)) name found → WaitsAs (alone room old queues) name
+  WaitsAs-found finds =
+      let line = line_at queues (waits queue) in
+      let before = before_place old line found.index in
+      let behind = behind_place old line found.index (line.count - suc found.index) in
+      record {
+        queue = queue;
+        before = before;
+        behind = behind;
+        marks = record { started = waiting.started; woken = waiting.woken };
+        job = waiting.job;
+        is_there = waiting_of-view room old queues queue ∙ says-at old line found.index (line.count - suc found.index) found.key waiting (around line found finds.stands.within) finds.stands.at at
+            ∙ ap (λ n. before ++ (n, record { started = waiting.started; woken = waiting.woken }, waiting.job) ∷ behind) (is_named found name waiting at line finds);
+      }

@@ -17,7 +17,7 @@ pub use Rattle.core_queues.specs.Rests.{AreAtRest, IsAtRest}
 pub use Rattle.core_queues.specs.Seats.{AreFound, AreSeated, HasPlace, HasSeat, LeavesSeat, name_of, no_seat, parked_counts, parked_keys, seat_at, Vacates}
 pub use Rattle.core_queues.specs.Slips.{has_slip, queues_alone, SlippedView}
 pub use Rattle.core_queues.specs.View.{awake, held_count, held_in, IsWithinLimits, Marks, mode_of, parked_of, queue_count, QueuesView, QueueView, shares_of, waiting_of}
-pub use Rattle.core_queues.specs.Waking.{HoldsNone, KeepsWake, WakesParked}
+pub use Rattle.core_queues.specs.Waking.{FindsNoPark, HoldsNone, IsParkedAs, KeepsWake, WaitsAs, WakesParked}
 pub use Rattle.core_queues.specs.declared.line.Line.{Line}
 pub use Rattle.core_queues.specs.declared.line.Queue.{Queue}
 pub use Rattle.core_queues.specs.declared.seats.ParkedAt.{ParkedAt}

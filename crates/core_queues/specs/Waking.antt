@@ -1,5 +1,5 @@
 -- What a wake does, by what it answers.
-use Rattle.std.specs.Prelude.{◌≡◌, ℕ, true, false, [], ◌∷◌, ◌++◌, map}
+use Rattle.std.specs.Prelude.{◌≡◌, ◌⊎◌, ℕ, true, false, [], ◌∷◌, ◌++◌, map}
 use Rattle.base_words.specs.Names.{among}
 use Rattle.base_words.specs.declared.names.JobId.{JobId}
 use Rattle.core_queues.specs.declared.queues.parks.Woke.{Woke}
@@ -27,10 +27,30 @@ module _ {J : Type 0} where
     pub was : waiting_of queue old ≡ before ++ (name, marks, job) ∷ behind
     pub line : ChangesLine old new queue (before ++ (name, record marks { woken = true }, job) ∷ behind)
 
+  -- this job is parked under this name
+  pub record IsParkedAs (view : QueuesView J) (name : JobId) (job : J) : Type 0 where
+    pub queue : ℕ
+    pub before : Parks J
+    pub behind : Parks J
+    pub is_there : parked_of queue view ≡ before ++ (name, job) ∷ behind
+
+  -- a job of this name waits in a line
+  pub record WaitsAs (view : QueuesView J) (name : JobId) : Type 0 where
+    pub queue : ℕ
+    pub before : Line J
+    pub behind : Line J
+    pub marks : Marks
+    pub job : J
+    pub is_there : waiting_of queue view ≡ before ++ (name, marks, job) ∷ behind
+
   -- no queue holds a job of this name
   pub record HoldsNone (view : QueuesView J) (name : JobId) : Type 0 where
     pub waits : (queue : ℕ) → among name (map (λ entry. entry.0) (waiting_of queue view)) ≡ false
     pub parks : (queue : ℕ) → among name (map (λ entry. entry.0) (parked_of queue view)) ≡ false
+
+  -- a wake of this name would find no parked job: one waits, or there is none
+  abbrev pub FindsNoPark : QueuesView J → JobId → Type 0
+  FindsNoPark view name = WaitsAs view name ⊎ HoldsNone view name
 
   -- a parked job comes to the tail of its queue, the wake of one that waits is kept, and there may be no such job
   abbrev pub Wakes : QueuesView J → JobId → Woke → QueuesView J → Type 0

@@ -1,8 +1,9 @@
 //! A wake: of the job that is out, of one that waits, or of a parked one.
-ghost use Rattle.std.specs.Prelude.{◌≡◌, ◌<◌, ◌≤◌, ◌||◌, nat_lt, length, true, false};
+ghost use Rattle.std.specs.Prelude.{◌≡◌, ◌<◌, ◌≤◌, ◌||◌, nat_lt, length, IfNone, IfSome, true, false};
 ghost use Rattle.base_words.specs.declared.order.Order.TheVariants as orders;
 ghost use Rattle.base_words.specs.Names.{is_number};
 ghost use Rattle.core_queues.specs.Slips.{queue_count, waiting_of};
+ghost use Rattle.core_queues.specs.Waking.{FindsNoPark, IsParkedAs};
 ghost use Rattle.core_core.specs.State.{queue_out, IsBounded};
 ghost use Rattle.core_core.specs.Inside.{job_out};
 ghost use Rattle.core_core.specs.Deliveries.{Delivers};
@@ -60,6 +61,14 @@ impl<J: Task, A: Allocator + Clone> Core<J, A> {
         }
         let answered = Note::Answered(name, Answer::NoJob);
         (Delivered::Answered(Answer::NoJob), one_note(answered))
+    }
+
+    /// The job that a wake of this name would find parked, if there is one.
+    pub fn parked(&self, name: JobId) -> Option<&J>
+        ensures there { IfSome result (λ job. IsParkedAs self.now.queues name job.now) }
+        ensures none { IfNone result (FindsNoPark self.now.queues name) }
+    {
+        self.queues.parked(name)
     }
 
     /// Wakes a job that is inside. The answer: whether it is.

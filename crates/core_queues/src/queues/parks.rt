@@ -2,7 +2,7 @@
 ghost use Rattle.std.specs.Prelude.{◌≡◌, ◌+◌, ◌<◌, [], ◌∷◌, ◌++◌, map, IfSome, IfNone, OnSome};
 ghost use Rattle.core_queues.specs.Queues.{awake, ChangesParks, Moves};
 ghost use Rattle.core_queues.specs.Slips.{queues_alone, queue_count, waiting_of, parked_of, held_count, IsWithinLimits};
-ghost use Rattle.core_queues.specs.Waking.{Wakes};
+ghost use Rattle.core_queues.specs.Waking.{FindsNoPark, IsParkedAs, Wakes};
 
 use super::Queues;
 use crate::line::{Line, Queue};
@@ -68,6 +68,20 @@ impl<J: Drop, A: Allocator + Clone> Queues<J, A> {
             shares: was.shares,
             mode: was.mode,
         };
+    }
+
+    /// The job that a wake of this name would find parked, if there is one.
+    pub fn parked(&self, name: JobId) -> Option<&J>
+        ensures there { IfSome result (λ job. IsParkedAs (queues_alone self.now) name job.now) }
+        ensures none { IfNone result (FindsNoPark (queues_alone self.now) name) }
+    {
+        let Some(key) = self.names.find(&name) else {
+            return None;
+        };
+        match read_seat(&self.seats, key) {
+            Stands::Parked(_queue, _before) => Some(&self.jobs[key].job),
+            Stands::Waits => None,
+        }
     }
 
     /// Wakes the job of this name: a parked one joins the tail of its queue, and of one that waits the wake is kept.
