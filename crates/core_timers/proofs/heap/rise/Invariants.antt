@@ -1,0 +1,14 @@
+-- Only the open place may be out of order, and what is below it isn't.
+use Rattle.core_timers.specs.Tables.{table, put}
+use Rattle.core_timers.specs.Heap.{IsEarly}
+use Rattle.core_timers.proofs.Sifts.{Goes}
+use Rattle.core_timers.proofs.heap.rise.Given as goal
+
+abbrev pub invariant-loop-at : goal.invariant-loop-at
+invariant-loop-at g l = record {
+  goes : Goes l.fn.count l.at (put (table l.fn.heap.items l.fn.rows.items) l.fn.hole l.slot) (put (table l.heap.items l.rows.items) l.at l.slot);
+  early : IsEarly l.fn.count l.at (put (table l.heap.items l.rows.items) l.at l.slot);
+}
+
+abbrev pub decreases-loop-at : goal.decreases-loop-at
+decreases-loop-at g l = l.at

@@ -1,0 +1,5 @@
+pub mod Timers
+pub mod Tables
+pub mod Heap
+pub mod BadTimers
+pub mod BadHeaps
