@@ -40,7 +40,7 @@ module _ {J T : Type 0} {meaning : Meaning J T} {core : ℕ} {desk : DeskView J 
   in_place : core < length ends.outs
   in_place = omega (arith, lent.known, lent.outs.count)
 
-  out_there : slice_get ends.outs core ≡ Some before
+  pub out_there : slice_get ends.outs core ≡ Some before
   out_there = subst (λ end. slice_get ends.outs core ≡ Some end) (sym lent.is) (slice_get-get_or ends.outs core no_out in_place)
 
   -- what was sent on this end was sent on that to the core

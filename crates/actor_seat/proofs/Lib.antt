@@ -12,6 +12,9 @@ pub mod HandedBack
 pub mod Picked
 pub mod LentIn
 pub mod LentOut
+pub mod LinkedCalls
+pub mod Unsent
+pub mod OwnWakes
 pub mod Passed
 pub mod PollNotes
 pub mod TurnOfEnds
@@ -21,3 +24,4 @@ pub mod Untouched
 pub mod Fewer
 pub mod Rung
 mod BellsRefused
+mod WakesRefused

@@ -1,5 +1,5 @@
 -- What the crates below and the specs of this one hand on to its proofs.
-pub use Rattle.actor_core.proofs.OwedSteps.{closes_keep, collects_keep, delivers_keep, ends_keep, picks_keep, sees_more_owed, shuts_keep}
+pub use Rattle.actor_core.proofs.OwedSteps.{closes_keep, collects_keep, delivers_keep, detaches_keep, ends_keep, picks_keep, sees_more_owed, shuts_keep, submits_keep}
 pub use Rattle.actor_core.proofs.OwedTurns.{seen_got}
 pub use Rattle.actor_core.specs.Deliveries.{entry_note, IsDelivery, with_effect}
 pub use Rattle.actor_core.specs.Ends.{Gives, IsInOf, IsInOwing, IsSameSeat, KeepsIn, LeavesOwed}
@@ -29,6 +29,7 @@ pub use Rattle.actor_seat.specs.OutsideSeats.{IsSeatedOutside, OutsideView, Uses
 pub use Rattle.actor_seat.specs.Queues.{is_opening, opening_of}
 pub use Rattle.actor_seat.specs.Seats.{DetachesOn, IsSeated, PicksTaken, RedeemsOn, SubmitsOn, taken_of, UsesOut}
 pub use Rattle.actor_seat.specs.Steps.{CollectsOf, DeliversFrom, PollsFirst, PollsFurther, PollsOne, ShutsGate}
+pub use Rattle.actor_seat.specs.Wakes.{RefusesOwnWake, SendsOwnWake, WakesOwn}
 pub use Rattle.actor_seat.specs.declared.seat.Taken.{Taken}
 pub use Rattle.base_jobs.specs.Meanings.{Meaning}
 pub use Rattle.base_jobs.specs.Steps.{AfterPoll, OwesAt}

@@ -1,6 +1,6 @@
 -- No step of a worker changes what was created at the opening.
 use Rattle.actor_seat.proofs.Names.{Answer, ap, AreCollected, ArePosts, Delivers, effect_note, entry_note, if◌then◌else◌, Inward, is_opening, IsDelivery, IsHandBack, JobId, Journal, JournalView, List, Meaning, None, Note, opening_of}
-use Rattle.actor_seat.proofs.Names.{Option, Order, Reason, RecordedView, refl, refusal, Some, subst, sym, TellsShut, with_effect, ℕ, [], ◌++◌, ◌+◌, ◌∙◌, ◌∷◌, ◌≡◌}
+use Rattle.actor_seat.proofs.Names.{Option, Order, Reason, RecordedView, refl, refusal, Some, subst, sym, TellsShut, with_effect, ℕ, [], ◌++◌, ◌∙◌, ◌∷◌, ◌≡◌}
 use Rattle.std.proofs.Common.{Bool, true, false}
 use Rattle.base_words.specs.declared.note.Note.TheVariants as writes
 use Rattle.base_words.specs.declared.order.Order.TheVariants.{Job, Create, SetShares, Close, CloseCore, Wake}

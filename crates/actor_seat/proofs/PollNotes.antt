@@ -1,6 +1,6 @@
 -- What the notes of a poll tell: its pick, if it is the first of its turn, its beginning, what it posts, and its settling.
 use Rattle.actor_seat.proofs.Names.{ap, append_assoc, ArePosts, Begins, Bool, false, Grows, JobId, Journal, LinkedView, Meaning, None, opening_of, Option, poll_note, PollsFirst, PollsFurther, PollsOne, refl, settle_note, Settled, Some, sym}
-use Rattle.actor_seat.proofs.Names.{true, unwrap_or, with_notes, ℕ, [], ◌++◌, ◌+◌, ◌∙◌, ◌∷◌, ◌≡◌}
+use Rattle.actor_seat.proofs.Names.{true, unwrap_or, with_notes, ℕ, [], ◌++◌, ◌∙◌, ◌∷◌, ◌≡◌}
 use Rattle.base_words.specs.declared.note.Note.TheVariants as writes
 use Rattle.core_core.specs.declared.turn.Settled.TheVariants as came
 use Rattle.actor_seat.proofs.Openings.{opening_posted}

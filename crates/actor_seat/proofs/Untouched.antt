@@ -1,6 +1,6 @@
 -- A refused call on a lent end leaves all as it was.
 use Rattle.actor_seat.proofs.Names.{ap, ap₂, arith, desk_of, DeskView, DetachesTicket, EndsView, Err, Fits, IsOutOf, JobId, length, LinkedView, List, Meaning, no_out, Ok, on_err_weaker, OnErr, Outcome, OutsideView, Outward, RecordedView}
-use Rattle.actor_seat.proofs.Names.{RedeemsTicket, Result, Sending, set-get_or, StaysBeside, subst, TicketError, with_out, ℕ, ◌+◌, ◌∙◌, ◌≡◌}
+use Rattle.actor_seat.proofs.Names.{RedeemsTicket, Result, Sending, set-get_or, StaysBeside, subst, TicketError, with_out, ℕ, ◌∙◌, ◌≡◌}
 use Rattle.base_words.specs.declared.names.TicketError.TheVariants.{Unknown, Gone, Pending}
 use Rattle.actor_seat.proofs.LentOut.{LendsOut, out_beside}
 use Rattle.actor_seat.proofs.OutsideSeats.{LendsAt, as_lent}

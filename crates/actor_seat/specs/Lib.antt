@@ -2,6 +2,7 @@ pub mod Queues
 pub mod Linked
 pub mod Seats
 pub mod Steps
+pub mod Wakes
 pub mod Bursts
 pub mod Opening
 pub mod Together

@@ -3,12 +3,14 @@
 //! It lies down, looks once more at everything, and parks only if there was nothing. The types force this order, here too: what lay down
 //! (`Lain`) can only be handed to a look, and what may park (`Quiet`) is only given by one. Neither of them has the bell, so neither lies down
 //! anew, and what has the bell can't park.
+//!
+//! A sleep may have a limit. Right behind its look the actor is asked for it, and what may park (`Quiet`) holds it from then on.
 
 ghost use Rattle.std.specs.Prelude.{◌≡◌, Bool, IfOk, is_none};
 ghost use Rattle.actor_seat.specs.Bells.{IsNamedFor, once_more};
 
+use crate::event::{Event, Key};
 use base_words::ActorNo;
-use crossbeam_utils::sync;
 use std::alloc::{AllocError, Global};
 use std::marker::{Model, PhantomData};
 use std::sync::{Arc, OnceLock, Wait};
@@ -16,7 +18,7 @@ use std::sync::{Arc, OnceLock, Wait};
 /// What all handles on one bell share.
 #[derive(Drop)]
 struct Hung {
-    event: sync::EventCount,
+    event: Event,
     /// Whose bell it is. It stands here, so that no bell is that of two actors.
     actor: u8,
     /// Nothing is ever put in. By its number contracts tell one bell from another.
@@ -57,7 +59,7 @@ impl Bell {
             hung: Arc::new(
                 alloc,
                 Hung {
-                    event: sync::EventCount::new(),
+                    event: Event::new(),
                     actor: actor.0,
                     name: OnceLock::new(),
                     apart: [0; 16],
@@ -86,7 +88,7 @@ impl Bell {
     {
         self.rings = self.rings.saturating_add(1);
         // step: ring. A load and, if the actor lay down, an addition to the word on which it parks.
-        self.hung.event.notify_one();
+        self.hung.event.ring();
     }
 }
 
@@ -104,6 +106,11 @@ pub trait LastLook {
     fn look_again(&mut self, local: &mut Self::Local) -> bool
         requires { IsReady self.old }
         ensures { Looks self.old result self.new };
+
+    /// For how many nanoseconds it may sleep at most behind such a look. None: until its bell rings.
+    fn limit(&self) -> Option<u64> {
+        None
+    }
 }
 
 /// An actor's own bell. Only an `L` sleeps on it, behind a look of its own (`rest`).
@@ -136,7 +143,7 @@ impl<L> OwnBell<L> {
     pub(crate) fn lie_down(&self) -> Lain<'_, L> {
         // step: lie down
         Lain {
-            key: self.bell.hung.event.prepare_wait(),
+            key: self.bell.hung.event.lie_down(),
             of: PhantomData,
         }
     }
@@ -144,13 +151,15 @@ impl<L> OwnBell<L> {
 
 /// That an `L` lay down. It can't be dropped: only a look ends it.
 pub(crate) struct Lain<'a, L> {
-    key: sync::Key<'a>,
+    key: Key<'a>,
     of: PhantomData<L>,
 }
 
 /// That an `L` lay down, and that a look of it since then found nothing. It can't be dropped: only a sleep ends it.
 pub(crate) struct Quiet<'a, L> {
-    key: sync::Key<'a>,
+    key: Key<'a>,
+    /// For how many nanoseconds it may sleep at most.
+    limit: Option<u64>,
     of: PhantomData<L>,
 }
 
@@ -171,16 +180,17 @@ impl<'a, L: LastLook> Lain<'a, L> {
             // step: get up, by the key that is dropped
             return None;
         }
-        Some(Quiet { key, of })
+        let limit = last.limit();
+        Some(Quiet { key, limit, of })
     }
 }
 
 impl<L> Quiet<'_, L> {
-    /// Parks until the bell rings. It doesn't if the bell has rung since the actor lay down.
+    /// Parks until the bell rings or the limit is over. It doesn't if the bell has rung since the actor lay down.
     pub(crate) fn sleep<R: Wait>(self, rt: &R) -> Slept {
-        let Quiet { key, of: _ } = self;
-        // step: park, which looks at the word once more
-        key.wait(rt);
+        let Quiet { key, limit, of: _ } = self;
+        // step: park, which looks at the word once more; then get up
+        key.sleep(rt, limit);
         Slept { _own: () }
     }
 }

@@ -6,7 +6,7 @@
 //!
 //! - **Its ends.** Each is one side of a ring whose other side has another seat. It goes out by the steps of link_board, and nothing else here
 //!   is an operation that another thread can see.
-//! - **Bells.** All handles on one bell share a count of those who lie down and a word that a ring raises (`Hung.event`). Whose bell it is and
+//! - **Bells.** All handles on one bell share a count of those who lie down and a word that a ring raises (`event.rt`). Whose bell it is and
 //!   its name stand there too, and never change. How often these hands rang it (`Bell.rings`) is in the handle, and shared with nobody.
 //!
 //! # Who may touch it
@@ -22,13 +22,15 @@
 //! 2. Outcome: the poll or the answer is noted, then the outcome is given on the sender's ring, then the sender's bell is rung. A call doesn't
 //!    return between the note and the outcome, so no outcome is owed between two calls.
 //! 3. Rest: it lies down, then looks at everything, then parks. A ring behind the first ends the sleep. A ring before it came from a step that
-//!    the look sees. Types hold this order up (`bell.rt`).
+//!    the look sees. Types hold this order up (`bell.rt`). A sleep ends by itself if it has a limit.
 #![tactic(auto)]
 
 mod bell;
 pub mod bells;
+mod event;
 pub mod laws;
 pub mod outside_seat;
+mod own_wake;
 mod resting;
 pub mod seat;
 mod turn;

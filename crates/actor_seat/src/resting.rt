@@ -5,7 +5,7 @@ ghost use Rattle.std.specs.Prelude.{◌≡◌, IfSome, is_none};
 use crate::bell::{LastLook, OwnBell, Slept};
 use std::sync::Wait;
 
-/// That an `L` parked on this bell, behind a look that found nothing, and was woken. Only `OwnBell::rest` makes one.
+/// That an `L` parked on this bell, behind a look that found nothing, and woke. Only `OwnBell::rest` makes one.
 #[derive(Drop)]
 pub struct Woken<'a, L> {
     own: &'a OwnBell<L>,
@@ -14,7 +14,7 @@ pub struct Woken<'a, L> {
 
 impl<L: LastLook> OwnBell<L> {
     /// Lies down, looks once more at everything, and parks until the bell rings if there was nothing. It doesn't park if the bell has rung
-    /// since it lay down.
+    /// since it lay down. Where `last` tells a limit behind that look, it wakes by itself, at the limit or a little earlier or later.
     pub fn rest<'a, R: Wait>(
         &'a self,
         rt: &R,

@@ -268,6 +268,7 @@ impl<J: Task<Out = u64>> Seat<J> {
         requires ready { HasReadyJob J.meaning order }
         ensures does { SubmitsOn to order self.old result self.new }
         ensures seated { IsSeated J.meaning self.new }
+        ensures linked { IsLinked J.meaning self.old → IsLinked J.meaning self.new }
     {
         self.recorded.submit(self.ends.out_mut(to), to, order)
     }
@@ -299,6 +300,7 @@ impl<J: Task<Out = u64>> Seat<J> {
         requires room { length self.old.recorded.journal.notes < self.old.recorded.journal.room }
         ensures does { DetachesOn ticket self.old result self.new }
         ensures seated { IsSeated J.meaning self.new }
+        ensures linked { IsLinked J.meaning self.old → IsLinked J.meaning self.new }
     {
         if !self.recorded.knows(ticket) {
             return Err(TicketError::Unknown);

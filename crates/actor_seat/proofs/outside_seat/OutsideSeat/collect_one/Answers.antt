@@ -1,4 +1,4 @@
-use Rattle.actor_seat.proofs.Names.{ap, arith, Fits, length, out_at, refl, subst, sym, UsesOutside, with_out, ◌+◌, ◌∙◌, ◌≤◌}
+use Rattle.actor_seat.proofs.Names.{ap, arith, Fits, length, out_at, refl, subst, sym, UsesOutside, with_out, ◌+◌, ◌≤◌}
 use Rattle.actor_desk.specs.Tickets.{GetsNext}
 use Rattle.actor_seat.proofs.Adding.{next_adds}
 use Rattle.actor_seat.proofs.OutsideSeats.{LendsAt, lent_beside, lent_lane, lent_room, seated_now, there_too, uses_now}

@@ -1,8 +1,9 @@
-use Rattle.actor_seat.proofs.Names.{ap, arith, desk_of, DetachesOn, Err, IsSeated, length, out_at, refl, subst, sym, with_out, ◌<◌, ◌∙◌}
+use Rattle.actor_seat.proofs.Names.{ap, arith, desk_of, DetachesOn, Err, IsLinked, IsSeated, length, out_at, refl, subst, sym, with_out, ◌<◌, ◌∙◌}
 use Rattle.base_words.specs.declared.names.TicketError.TheVariants.{Unknown}
 use Rattle.actor_seat.proofs.Adding.{detaches_add}
 use Rattle.actor_seat.proofs.Along.{stays_same}
 use Rattle.actor_seat.proofs.LentOut.{LendsOut, out_beside, out_lane, out_seated, out_stays, out_uses}
+use Rattle.actor_seat.proofs.LinkedCalls.{detached_linked}
 use Rattle.actor_seat.proofs.Untouched.{linked_stays, detach_leaves}
 use Rattle.actor_seat.proofs.seat.Seat.detach.Given.{Over}
 use Rattle.actor_seat.proofs.seat.Seat.detach.Goals as goal
@@ -17,11 +18,13 @@ lends g c = record {
 }
 
 -- the core is beside its ends again
+seated_there : (g : Over) (c : After-detach g) → LendsOut g.J.Task.meaning c.args.ticket.to (desk_of c.self.inside.recorded) c.self.inside.ends c.out_mut.result.now →
+    IsSeated g.J.Task.meaning (record { recorded = c.detach.new.self; ends = with_out c.args.ticket.to c.detach.new.end c.self.inside.ends })
+seated_there g c lent = out_seated c.self.invariant.beside lent c.detach.new.self c.detach.new.end c.detach.ensures.stays c.detach.ensures.ins c.detach.ensures.seat c.detach.ensures.sound
+
 seated : (g : Over) (c : After-detach g) → LendsOut g.J.Task.meaning c.args.ticket.to (desk_of c.self.inside.recorded) c.self.inside.ends c.out_mut.result.now →
     IsSeated g.J.Task.meaning (record { recorded = c.detach.new.self; ends = with_out c.name-to.result.to c.detach.new.end c.self.inside.ends })
-seated g c lent =
-    subst (λ name. IsSeated g.J.Task.meaning (record { recorded = c.detach.new.self; ends = with_out name.to c.detach.new.end c.self.inside.ends })) (sym c.name-to.ensures)
-    (out_seated c.self.invariant.beside lent c.detach.new.self c.detach.new.end c.detach.ensures.stays c.detach.ensures.ins c.detach.ensures.seat c.detach.ensures.sound)
+seated g c lent = subst (λ name. IsSeated g.J.Task.meaning (record { recorded = c.detach.new.self; ends = with_out name.to c.detach.new.end c.self.inside.ends })) (sym c.name-to.ensures) (seated_there g c lent)
 
 pub returns-then-not-knows-clause-does : goal.returns-then-not-knows-clause-does
 returns-then-not-knows-clause-does g c =
@@ -60,3 +63,12 @@ returns-clause-does g c =
       rest = c.detach.ensures.rest;
       stays = out_stays c.self.invariant.beside lent c.detach.new.self c.detach.new.end c.detach.ensures.seat c.detach.ensures.untouched (omega (arith, same)) (detaches_add _ _ _ _ c.detach.ensures.detaches);
     }))
+
+pub returns-clause-linked : goal.returns-clause-linked
+returns-clause-linked g c =
+    let here = goal.at.returns-clause-linked g c in
+    let lent = lends g here.After-out_mut in
+    λ linked.
+    subst (λ name. IsLinked g.J.Task.meaning (record { recorded = c.detach.new.self; ends = with_out name.to c.detach.new.end c.self.inside.ends })) (sym c.name-to.ensures)
+    (detached_linked lent c.detach.new.self c.detach.new.end c.detach.ensures.rest (seated_there g here.After-detach lent) (subst (IsLinked g.J.Task.meaning) (sym c.self.view_is) linked)
+    c.args.ticket c.detach.result c.detach.ensures.out c.detach.ensures.detaches)

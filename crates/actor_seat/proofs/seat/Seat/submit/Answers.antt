@@ -1,6 +1,7 @@
-use Rattle.actor_seat.proofs.Names.{ap, arith, desk_of, IsSeated, length, numbered, SubmitsOn, subst, sym, with_out, ◌<◌}
+use Rattle.actor_seat.proofs.Names.{ap, arith, desk_of, IsLinked, IsSeated, length, numbered, SubmitsOn, subst, sym, with_out, ◌<◌}
 use Rattle.actor_seat.proofs.Adding.{submits_add}
 use Rattle.actor_seat.proofs.LentOut.{LendsOut, out_beside, out_lane, out_seated, out_sends, out_stays, out_uses, sends_seen}
+use Rattle.actor_seat.proofs.LinkedCalls.{submitted_linked}
 use Rattle.actor_seat.proofs.seat.Seat.submit.Given.{Over}
 use Rattle.actor_seat.proofs.seat.Seat.submit.Goals as goal
 use Rattle.actor_seat.proofs.seat.Seat.submit.Goals.{After-out_mut, After-submit}
@@ -48,3 +49,11 @@ returns-clause-does g c =
       rest = c.submit.ensures.rest;
       stays = out_stays c.self.invariant.beside lent c.submit.new.self c.submit.new.end c.submit.ensures.seat c.submit.ensures.untouched (omega (arith, same)) (submits_add _ _ _ _ _ c.submit.ensures.submits);
     })
+
+pub returns-clause-linked : goal.returns-clause-linked
+returns-clause-linked g c =
+    let here = goal.at.returns-clause-linked g c in
+    let lent = lends g here.After-out_mut in
+    λ linked.
+    submitted_linked lent c.submit.new.self c.submit.new.end c.submit.ensures.rest (seated g here.After-submit lent) (subst (IsLinked g.J.Task.meaning) (sym c.self.view_is) linked)
+    c.args.order c.submit.result c.submit.ensures.sends c.submit.ensures.submits
