@@ -27,9 +27,9 @@ module _ {T : Type 0} where
 
   pub posts_act : (least room : ℕ) (notes before : Journal T) → ArePosts notes → IsPolling before → EachNote (MayAct least room) before → EachNote (MayAct least room) (notes ++ before)
   posts_act least room [] before posts polls each = each
-  posts_act least room (writes.Sent name order ∷ notes) before posts polls each = (still_polls notes before posts polls, posts_act least room notes before posts polls each)
+  posts_act least room (writes.Sent name order ∷ notes) before posts polls each = (inl (still_polls notes before posts polls), posts_act least room notes before posts polls each)
   posts_act least room (writes.Redeemed name outcome ∷ notes) before posts polls each = (still_polls notes before posts polls, posts_act least room notes before posts polls each)
-  posts_act least room (writes.Detached name ∷ notes) before posts polls each = (still_polls notes before posts polls, posts_act least room notes before posts polls each)
+  posts_act least room (writes.Detached name ∷ notes) before posts polls each = (inl (still_polls notes before posts polls), posts_act least room notes before posts polls each)
   posts_act least room (_ ∷ notes) before posts polls each = absurd posts
 
   pub settles_act : (least room : ℕ) (name : JobId) (time : ℕ) (did : Settled T) (before : Journal T) → EachNote (MayAct least room) before →

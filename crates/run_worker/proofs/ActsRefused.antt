@@ -1,9 +1,9 @@
--- Small journals of a core that sends, redeems or lets go while none of its jobs is polled, or closes by itself where it may not.
-use Rattle.run_worker.proofs.Names.{arith, EachNote, inl, inr, JobId, Journal, MayAct, refl, ℕ, [], ◌∷◌, ◌≤◌}
+-- Small journals of a core that sends, redeems or lets go while none of its jobs is polled, wakes what it may not, or closes by itself where it may not.
+use Rattle.run_worker.proofs.Names.{ap, arith, EachNote, inl, inr, JobId, jobs_out, Journal, MayAct, refl, ℕ, [], ◌∷◌, ◌≡◌, ◌≤◌}
 use Rattle.base_words.specs.declared.note.Note.TheVariants.{CoreClosed, Sent, Redeemed, Detached, Took, Pick, Start, Done}
 use Rattle.base_words.specs.declared.order.Mode.TheVariants.{Finish, Return}
 use Rattle.base_words.specs.declared.note.OutcomeNote.TheVariants.{Finished}
-use Rattle.base_words.specs.declared.order.Order.TheVariants.{CloseCore}
+use Rattle.base_words.specs.declared.order.Order.TheVariants.{CloseCore, Wake}
 
 -- a job from the outside actor to core 0, and a submission of core 0 to itself
 abbrev job : JobId
@@ -18,11 +18,37 @@ IsRefused notes = (least room : ℕ) → EachNote (MayAct least room) notes → 
 
 -- it sends itself an order before any job is there
 sends_by_itself : IsRefused (Sent own (CloseCore Return) ∷ [])
-sends_by_itself least room acts = acts.0 refl
+sends_by_itself least room acts = by_leave acts.0
+  where
+    by_leave : MayAct {T = ℕ} least room (Sent own (CloseCore Return)) [] → ⊥
+    by_leave (inl polls) = polls refl
+    by_leave (inr wake) = wake
+
+-- it sends itself a wake of a job that isn't parked
+wakes_one_awake : IsRefused (Sent own (Wake 1 1) ∷ [])
+wakes_one_awake least room acts = by_leave acts.0
+  where
+    by_leave : MayAct {T = ℕ} least room (Sent own (Wake 1 1)) [] → ⊥
+    by_leave (inl polls) = polls refl
+    by_leave (inr wake) = let parked = wake.1.1 in cc
+
+-- it sends a wake to another core
+wakes_elsewhere : (before : Journal ℕ) → jobs_out before ≡ [] → (least room : ℕ) → MayAct least room (Sent (record { from = 0; to = 1; number = 1 }) (Wake 1 1)) before → ⊥
+wakes_elsewhere before none least room (inl polls) = polls none
+wakes_elsewhere before none least room (inr wake) = omega (arith, wake.0)
 
 -- it lets go of a submission behind a poll that is settled
 lets_go_behind_a_poll : IsRefused (Detached own ∷ Done job 1 5 ∷ Sent own (CloseCore Return) ∷ Start job ∷ Pick 0 0 ∷ Took job 0 ∷ [])
-lets_go_behind_a_poll least room acts = acts.0 refl
+lets_go_behind_a_poll least room acts = by_leave acts.0
+  where
+    by_leave : MayAct {T = ℕ} least room (Detached own) (Done job 1 5 ∷ Sent own (CloseCore Return) ∷ Start job ∷ Pick 0 0 ∷ Took job 0 ∷ []) → ⊥
+    by_leave (inl polls) = polls refl
+    by_leave (inr wake) = wake
+
+-- behind a wake that it sent itself it lets go of another submission
+lets_go_of_another : (before : Journal ℕ) → jobs_out before ≡ [] → (least room : ℕ) → MayAct least room (Detached (record own { number = 2 })) (Sent own (Wake 1 1) ∷ before) → ⊥
+lets_go_of_another before none least room (inl polls) = polls none
+lets_go_of_another before none least room (inr wake) = let number = ap (λ (name : JobId). name.number) wake.0 in omega (arith, number)
 
 -- it redeems behind a poll that is settled
 redeems_behind_a_poll : IsRefused (Redeemed own (Finished 5) ∷ Done job 1 5 ∷ Sent own (CloseCore Return) ∷ Start job ∷ Pick 0 0 ∷ Took job 0 ∷ [])

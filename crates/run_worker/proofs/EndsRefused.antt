@@ -1,5 +1,5 @@
 -- What small workers leave at their end that is refused: a core that closed by itself, notes that are kept, a board that is behind, another sink.
-use Rattle.run_worker.proofs.Names.{ActsUnlessRefused, ap, arith, EndedView, HasEnded, inl, inr, IsBetweenTurns, JobId, Journal, KeepsOn, length, Meaning, opened_beside, ServesToItsEnd, ShownView, Shows, sym, WorkerView, ℕ, [], ◌∙◌, ◌∷◌}
+use Rattle.run_worker.proofs.Names.{ActsUnlessRefused, ap, arith, EndedView, HasEnded, inl, inr, IsBetweenTurns, JobId, Journal, KeepsOn, length, Meaning, Option, opened_beside, ServesToItsEnd, ShownView, Shows, sym, WorkerView, ℕ, [], ◌∙◌, ◌∷◌}
 use Rattle.run_worker.proofs.Names.{◌≡◌, ◌⊎◌}
 use Rattle.base_words.specs.declared.note.Note.TheVariants.{CoreClosed, Pick, Start, Took, Yield}
 use Rattle.base_words.specs.declared.order.Mode.TheVariants.{Return}
@@ -40,7 +40,7 @@ ended_with passed shown = record { linked = linked_of one_note passed 1000; sink
 gives_another_sink : (worker : WorkerView ℕ ℕ ℕ ℕ ℕ) (ended : EndedView ℕ ℕ ℕ) → worker.sink ≡ 0 → ended.sink ≡ 1 → KeepsOn (λ sink. sink) worker ended → ⊥
 gives_another_sink worker ended was is keeps = omega (arith, was, is, keeps.marked)
 
-module _ (meaning : Meaning ℕ ℕ) (reads : ℕ → ℕ → ℕ → Type 0) (asked : ℕ → ℕ → JobId → ℕ → Type 0) where
+module _ (meaning : Meaning ℕ ℕ) (sleeps : ℕ → Option ℕ) (reads : ℕ → ℕ → ℕ → Type 0) (asked : ℕ → ℕ → JobId → ℕ → Type 0) where
   -- its note isn't passed on, and its sink never refused
   keeps_at_its_end : HasEnded meaning has never (ended_with [] (board_of one_note 1)) → ⊥
   keeps_at_its_end ended = is_kept ended.rest
@@ -50,7 +50,7 @@ module _ (meaning : Meaning ℕ ℕ) (reads : ℕ → ℕ → ℕ → Type 0) (a
       is_kept (inr refused) = refused
 
   -- its board doesn't tell its last note
-  ends_unpublished : (old : SmallWorker) → ServesToItsEnd meaning reads asked (taker never silent) old (ended_with one_note (board_of [] 1)) → ⊥
+  ends_unpublished : (old : SmallWorker) → ServesToItsEnd meaning sleeps reads asked (taker never silent) old (ended_with one_note (board_of [] 1)) → ⊥
   ends_unpublished old ended = is_behind ended.shows
     where
       notes : one_note ≡ ended.last.linked.recorded.journal.notes
@@ -62,5 +62,5 @@ module _ (meaning : Meaning ℕ ℕ) (reads : ℕ → ℕ → ℕ → Type 0) (a
       is_behind (inr (inr many, same)) = let few = ap (λ (notes : Journal ℕ). length notes) notes in omega (arith, many, few)
 
   -- its sink refused the note, and isn't asked once more
-  ends_unasked : (old : SmallWorker) → ServesToItsEnd meaning reads asked (taker always twice) old (ended_with [] (board_of one_note 1)) → ⊥
+  ends_unasked : (old : SmallWorker) → ServesToItsEnd meaning sleeps reads asked (taker always twice) old (ended_with [] (board_of one_note 1)) → ⊥
   ends_unasked old ended = unasked ended.last.sink [] ended.hands.asked

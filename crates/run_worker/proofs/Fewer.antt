@@ -62,8 +62,18 @@ module _ {J T : Type 0} where
         more.goes on (omega (arith, free, low, wrote, least, seat.room));
   }
 
+-- so many notes a look at all links writes at most
+abbrev pub links_most : ℕ → ℕ → ℕ → ℕ
+links_most cores cap burst = cores + 1 + (cores + 1) * (2 * cap) + most_of_turn cores cap burst + cores * cap
+
+module _ {J T : Type 0} where
+  pub links_along : (old new : RecordedView J T) → IsSameSeat old new → links_most new.core.cores new.cap new.core.bursts.burst ≡ links_most old.core.cores old.cap old.core.bursts.burst
+  links_along old new seat =
+      ap (λ cores. links_most cores new.cap new.core.bursts.burst) seat.cores
+      ∙ (ap (λ cap. links_most old.core.cores cap new.core.bursts.burst) seat.cap ∙ ap (λ burst. links_most old.core.cores old.cap burst) seat.burst)
+
 -- a round writes no more notes than a short journal lacks
-pub round_few : (cores cap burst : ℕ) → cores + 1 + (cores + 1) * (2 * cap) + most_of_turn cores cap burst + cores * cap ≤ least_free cores cap burst
+pub round_few : (cores cap burst : ℕ) → 2 * cap + links_most cores cap burst ≤ least_free cores cap burst
 round_few cores cap burst =
     omega (arith, places_all cores cap, mul_left_comm cores 3 cap, mul_left_comm (cores + 1) 2 cap, add-mul cores 1 cap, ends_once burst)
 

@@ -1,8 +1,8 @@
 -- Gates that are shut one after another, and the room that is left behind.
 use Rattle.run_worker.proofs.Names.{ActsAsItMay, ActsByCommand, ap, arith, Bool, cases_eq, closes, ClosesItself, cond, core_mode, EachNote, eq-eqb, false, final_count, final_of, given_count, HasSpare, in_at, inl, inr, Inward, is_some}
-use Rattle.run_worker.proofs.Names.{IsEnding, IsInOf, IsLinked, IsShort, IsShutWithin, IsSome, Journal, JournalView, KeepsTaken, last_through, least_free, LeavesReturning, LeavesShut, length, length-map, LinkedView, MayAct, Meaning, Mode}
+use Rattle.run_worker.proofs.Names.{IsEnding, IsInOf, IsLinked, IsShort, IsShutWithin, IsSome, Journal, JournalView, KeepsTaken, last_through, least_free, LeavesReturning, LeavesShut, LeavesUnless, length, length-map, LinkedView, MayAct, Meaning, Mode}
 use Rattle.run_worker.proofs.Names.{name_of, ne_eqb, None, NotesNoPoll, Option, or_else, outcome_note, RecordedView, refl, seat_along, ShutsFirst, ShutsGate, Some, SoundIn, stays_along, stays_same, StaysLinked, subst, suc, sum_upto, sym}
-use Rattle.run_worker.proofs.Names.{true, unwrap_or, WritesReturn, WritesShut, ℕ, ⊎_elim, ◌*◌, ◌+◌, ◌∙◌, ◌∷◌, ◌≡◌, ◌≢◌, ◌≤◌}
+use Rattle.run_worker.proofs.Names.{true, unwrap_or, WritesReturn, WritesShut, ℕ, ⊎_elim, ◌*◌, ◌+◌, ◌<◌, ◌∙◌, ◌∷◌, ◌≡◌, ◌≢◌, ◌≤◌}
 use Rattle.base_words.specs.declared.note.Note.TheVariants.{Shut}
 use Rattle.base_words.specs.declared.order.Mode.TheVariants.{Finish, Return}
 use Rattle.run_worker.proofs.Acting.{acts_at, command_acts}
@@ -59,9 +59,9 @@ module _ {J T : Type 0} where
       by_final false = omega arith
 
   -- none is shut yet
-  pub shuts_none : (old : LinkedView J T) → ShutsFirst 0 old old
-  shuts_none old = record {
-    shut = λ sender low. absurd (omega (arith, low));
+  pub shuts_none : (spared : ℕ) (old : LinkedView J T) → ShutsFirst spared 0 old old
+  shuts_none spared old = record {
+    shut = λ sender low spare. absurd (omega (arith, low));
     mode = refl;
     longer = omega arith;
     polls = refl;
@@ -71,12 +71,21 @@ module _ {J T : Type 0} where
   }
 
   -- the next one is shut
-  pub shuts_more : (count : ℕ) (old middle new : LinkedView J T) → ShutsFirst count old middle → LeavesShut count middle new → ShutsFirst (count + 1) old new
-  shuts_more count old middle new first next = record {
-    shut = λ sender low. ⊎_elim
+  pub shuts_more : (spared count : ℕ) (old middle new : LinkedView J T) → ShutsFirst spared count old middle → LeavesUnless spared count middle new → ShutsFirst spared (count + 1) old new
+  shuts_more spared count old middle new first (inl none) = subst (ShutsFirst spared (count + 1) old) (sym none.1) (record {
+    shut = λ sender low spare. let away : sender ≢ count = λ is. spare (is ∙ none.0) in first.shut sender (omega (arith, low, away)) spare;
+    mode = first.mode;
+    longer = omega (arith, first.longer);
+    polls = first.polls;
+    acts = first.acts;
+    stays = first.stays;
+    taken = first.taken;
+  })
+  shuts_more spared count old middle new first (inr (spares, next)) = record {
+    shut = λ sender low spare. ⊎_elim
         (λ (is : sender ≡ count). subst (λ one. IsShutWithin one new.recorded) (sym is) next.shut)
         (λ (away : sender ≢ count).
-        let before = first.shut sender (omega (arith, low, away)) in
+        let before = first.shut sender (omega (arith, low, away)) spare in
         let gate : final_count sender new.recorded.journal.notes ≡ final_count sender middle.recorded.journal.notes = gate_elsewhere count sender middle.recorded.journal new.recorded.journal next.wrote away in
         let through : last_through new.recorded.journal.notes sender ≡ last_through middle.recorded.journal.notes sender = ap (λ count. unwrap_or count 0) gate in
         let given = given_same count sender middle.recorded.journal new.recorded.journal next.wrote in
@@ -94,7 +103,7 @@ module _ {J T : Type 0} where
   }
 
   module _ {meaning : Meaning J T} (old middle new : LinkedView J T) (linked : IsLinked meaning old) (spare : HasSpare old.recorded)
-      (returns : LeavesReturning old middle) (shuts : ShutsFirst (middle.recorded.core.cores + 1) middle new) where
+      (returns : LeavesReturning old middle) {spared : ℕ} (beyond : middle.recorded.core.cores < spared) (shuts : ShutsFirst spared (middle.recorded.core.cores + 1) middle new) where
     returns_longer : (old new : JournalView T) → WritesReturn old new → length new.notes ≤ length old.notes + 1
     returns_longer old new (inl same) = let now : length new.notes ≡ length old.notes = ap (λ journal. length journal.notes) same in omega (arith, now)
     returns_longer old new (inr wrote) = let now : length new.notes ≡ suc (length old.notes) = ap (λ journal. length journal.notes) wrote in omega (arith, now)
@@ -106,13 +115,13 @@ module _ {J T : Type 0} where
         ≤ sum_upto (given_count new.recorded.journal.notes) new.recorded.core.cores + (new.recorded.core.cores + 1) * new.recorded.cap
     all_within =
         sums_within (last_through new.recorded.journal.notes) (given_count new.recorded.journal.notes) new.recorded.cap new.recorded.core.cores
-        (λ sender known. (shuts.shut sender (omega (arith, known, shuts.stays.seat.cores))).within)
+        (λ sender known. (shuts.shut sender (omega (arith, known, shuts.stays.seat.cores)) (λ is. omega (arith, is, known, beyond, shuts.stays.seat.cores))).within)
 
     -- what is left has its room
     pub ending_now : IsEnding new.recorded
     ending_now = record {
       returning = shuts.mode ∙ returns.returning;
-      gates = λ sender known. (shuts.shut sender (omega (arith, known, shuts.stays.seat.cores))).gate;
+      gates = λ sender known. (shuts.shut sender (omega (arith, known, shuts.stays.seat.cores)) (λ is. omega (arith, is, known, beyond, shuts.stays.seat.cores))).gate;
       room =
           let cores : new.recorded.core.cores ≡ old.recorded.core.cores = shuts.stays.seat.cores ∙ returns.stays.seat.cores in
           let cap : new.recorded.cap ≡ old.recorded.cap = shuts.stays.seat.cap ∙ returns.stays.seat.cap in
@@ -136,8 +145,8 @@ module _ {J T : Type 0} where
             subst (λ journal. EachNote (MayAct (least_free old.recorded.core.cores old.recorded.cap old.recorded.core.bursts.burst) old.recorded.journal.room) journal.notes) (sym wrote) (inr (refl, omega (arith, spare), short), may)
 
   -- a core that closes by itself and shuts its gates notes no poll
-  pub ending_notes_none : (old middle new : LinkedView J T) (count : ℕ) → LeavesReturning old middle → ShutsFirst count middle new → NotesNoPoll old.recorded.journal.notes new.recorded.journal.notes
-  ending_notes_none old middle new count returns shuts = shuts.polls ∙ return_notes_none old.recorded.journal middle.recorded.journal returns.wrote
+  pub ending_notes_none : (old middle new : LinkedView J T) (spared count : ℕ) → LeavesReturning old middle → ShutsFirst spared count middle new → NotesNoPoll old.recorded.journal.notes new.recorded.journal.notes
+  ending_notes_none old middle new spared count returns shuts = shuts.polls ∙ return_notes_none old.recorded.journal middle.recorded.journal returns.wrote
 
   -- a core that closed by itself noted that it closed in that mode, or it was in it before
   pub returned_leaves : (old new : LinkedView J T) (did : Bool) → ClosesItself old.recorded Return did new.recorded → StaysLinked old new → LeavesReturning old new

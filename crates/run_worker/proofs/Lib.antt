@@ -26,6 +26,8 @@ pub mod TurnRoom
 pub mod Between
 pub mod Gated
 pub mod Serving
+pub mod Woken
+pub mod Due
 pub mod Telling
 pub mod Fewer
 pub mod Heard

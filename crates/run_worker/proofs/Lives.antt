@@ -1,6 +1,6 @@
 -- What a worker keeps as it serves: its core lives on, its gate is asked for each poll, its board is the same, and its sink bears the same mark.
 use Rattle.run_worker.proofs.Names.{ap, AsksSince, Bool, GoesOn, HandsOnWhere, inl, inr, JobId, Journal, Meaning, polls_of, Rests, round_of, runs_along, runs_same, runs_stays, RunsOn, Serves, ServesAlong, ServesOnce, ShownView, Shows}
-use Rattle.run_worker.proofs.Names.{ShowsAgain, ShowsEnd, ShowsNow, StaysLinked, subst, sym, WorkerView, KeepsTries, List, ℕ, [], ◌∙◌, ◌∷◌, ◌≡◌}
+use Rattle.run_worker.proofs.Names.{ShowsAgain, ShowsEnd, ShowsNow, StaysLinked, subst, sym, WorkerView, KeepsTries, List, Option, ℕ, [], ◌∙◌, ◌∷◌, ◌≡◌}
 use Rattle.note_journal.specs.declared.sink.Sink as taking
 use Rattle.run_worker.proofs.Asking.{asks_none, asks_then}
 use Rattle.run_worker.proofs.Looked.{look_asks, look_steps, round_asks, round_steps}
@@ -71,29 +71,29 @@ module _ {J C G S : Type 0} (takes : taking.Ghosts S) (due : Type 0) (old new : 
   }
   where_lives asked (inr none) = lives_same asked takes.mark old new none.1
 
-module _ {J C G S : Type 0} (meaning : Meaning J ℕ) (reads : C → ℕ → C → Type 0) (asked : G → ℕ → JobId → G → Type 0) (takes : taking.Ghosts S) where
-  goes_lives : (old new : WorkerView J ℕ C G S) (again : Bool) → GoesOn meaning reads asked takes old again new → Lives asked takes.mark old new
+module _ {J C G S : Type 0} (meaning : Meaning J ℕ) (sleeps : J → Option ℕ) (reads : C → ℕ → C → Type 0) (asked : G → ℕ → JobId → G → Type 0) (takes : taking.Ghosts S) where
+  goes_lives : (old new : WorkerView J ℕ C G S) (again : Bool) → GoesOn meaning sleeps reads asked takes old again new → Lives asked takes.mark old new
   goes_lives old new again did =
       lives_along asked takes.mark old did.ready new (where_lives takes _ old did.ready asked did.hands)
-      (kept_lives asked takes.mark did.ready new (round_steps meaning reads asked _ (round_of did.ready) (round_of new) did.some did.makes).stays
-      (round_asks meaning reads asked _ (round_of did.ready) (round_of new) did.some did.makes) did.keeps)
+      (kept_lives asked takes.mark did.ready new (round_steps meaning sleeps reads asked _ (round_of did.ready) (round_of new) did.some did.makes).stays
+      (round_asks meaning sleeps reads asked _ (round_of did.ready) (round_of new) did.some did.makes) did.keeps)
 
-  rests_lives : (old new : WorkerView J ℕ C G S) (found : Bool) → Rests meaning reads asked takes old found new → Lives asked takes.mark old new
+  rests_lives : (old new : WorkerView J ℕ C G S) (found : Bool) → Rests meaning sleeps reads asked takes old found new → Lives asked takes.mark old new
   rests_lives old new found did =
       lives_along asked takes.mark old did.ready new (where_lives takes _ old did.ready asked did.hands)
-      (kept_lives asked takes.mark did.ready new (look_steps meaning reads asked (round_of did.ready) (round_of new) _ did.looks).stays (look_asks meaning reads asked (round_of did.ready) (round_of new) _ did.looks) did.keeps)
+      (kept_lives asked takes.mark did.ready new (look_steps meaning sleeps reads asked (round_of did.ready) (round_of new) _ did.looks).stays (look_asks meaning sleeps reads asked (round_of did.ready) (round_of new) _ did.looks) did.keeps)
 
-  once_lives : (old new : WorkerView J ℕ C G S) → ServesOnce meaning reads asked takes old new → Lives asked takes.mark old new
+  once_lives : (old new : WorkerView J ℕ C G S) → ServesOnce meaning sleeps reads asked takes old new → Lives asked takes.mark old new
   once_lives old new (inl goes) = goes_lives old new _ goes
   once_lives old new (inr (tired, goes, (told, shows, (found, rests)))) =
       lives_along asked takes.mark old tired new (goes_lives old tired _ goes) (lives_along asked takes.mark tired told new (now_lives asked takes.mark tired told shows) (rests_lives told new found rests))
 
-  serves_lives : (old new : WorkerView J ℕ C G S) → Serves meaning reads asked takes old new → Lives asked takes.mark old new
+  serves_lives : (old new : WorkerView J ℕ C G S) → Serves meaning sleeps reads asked takes old new → Lives asked takes.mark old new
   serves_lives old new (shown, again, (served, once, end)) =
       lives_along asked takes.mark old shown new (again_lives asked takes.mark old shown again)
       (lives_along asked takes.mark shown served new (once_lives shown served once) (end_lives asked takes.mark shown.ending served new end))
 
   -- and however long it serves
-  pub along_lives : (states : List (WorkerView J ℕ C G S)) (old new : WorkerView J ℕ C G S) → ServesAlong meaning reads asked takes states old new → Lives asked takes.mark old new
+  pub along_lives : (states : List (WorkerView J ℕ C G S)) (old new : WorkerView J ℕ C G S) → ServesAlong meaning sleeps reads asked takes states old new → Lives asked takes.mark old new
   along_lives [] old new did = lives_same asked takes.mark old new did
   along_lives (last ∷ states) old new did = lives_along asked takes.mark old last new (along_lives states old last did.0) (serves_lives last new did.1)

@@ -75,16 +75,23 @@ pub use Rattle.run_watch.specs.declared.publisher.Publishing.{Publishing}
 pub use Rattle.run_worker.specs.Again.{LooksAgain}
 pub use Rattle.run_worker.specs.Asks.{AsksFor, AsksSince, name_polled, NotesNoPoll, polls_of, with_poll}
 pub use Rattle.run_worker.specs.Ended.{ActsUnlessRefused, EndedView, HasEnded, IsServed, KnowsSeat, ServedView}
-pub use Rattle.run_worker.specs.Few.{got_most, most_of_turn, round_most, taken_most, turn_most, WritesFew}
-pub use Rattle.run_worker.specs.Gates.{IsShutWithin, KeepsTaken, LeavesReturning, LeavesShut, ShutsFirst, WritesReturn, WritesShut}
-pub use Rattle.run_worker.specs.Looks.{leaves_turns, LooksAtAll, LooksOrRests, MakesRound, PassesLinks, round_view, RoundView, turns_after, TurnsAlone}
+pub use Rattle.run_worker.specs.Few.{got_most, most_of_turn, round_most, taken_most, turn_most, woken_most, WritesFew}
+pub use Rattle.run_worker.specs.Gates.{IsShutWithin, KeepsTaken, LeavesReturning, LeavesShut, LeavesUnless, ShutsFirst, WritesReturn, WritesShut}
+pub use Rattle.run_worker.specs.Looks.{leaves_turns, LooksAtAll, LooksAtLinks, LooksOrRests, MakesRound, PassesLinks, turns_after, TurnsAlone}
+pub use Rattle.run_worker.specs.Views.{FindsNoneDue, Peeks, round_view, RoundView, WakesDue}
 pub use Rattle.run_worker.specs.Passing.{HandsOn, HandsOnWhere, HasPlaces, IsDue, IsDueAtRest, IsSupplied, PassesTo}
 pub use Rattle.run_worker.specs.Queues.{behind_entries, behind_entry, creations}
-pub use Rattle.run_worker.specs.Readings.{BeginsNext, kept_behind, TimesNext, watch_view, WatchView}
-pub use Rattle.run_worker.specs.Rooms.{ActsAsItMay, ActsByCommand, HasSpare, IsEnding, IsPolling, IsProvided, IsReady, IsShort, last_through, least_free, MayAct}
+pub use Rattle.run_worker.specs.Readings.{BeginsNext, kept_behind, ReadsNow, TimesNext, watch_view, WatchView}
+pub use Rattle.run_worker.specs.Rooms.{ActsAsItMay, ActsByCommand, HasSpare, IsEnding, IsPolling, IsProvided, IsReady, IsShort, last_through, least_free, MayAct, WakesOwnPark}
 pub use Rattle.run_worker.specs.Rounds.{AreRung, CollectsFirst, CollectsNext, HasShutGates, HearsAll, HearsFirst, HearsOne, HearsSome, is_turn, IsAllGot, IsAllTaken, IsHeard, LooksAtRoom, ShutsClosed, StepsServed, TellsNotes}
 pub use Rattle.run_worker.specs.Serves.{CountsIdle, GoesOn, KeepsTries, Rests, round_of, Serves, ServesAlong, ServesOn, ServesOnce, ServesToItsEnd, ShowsAgain, ShowsEnd, ShowsNow}
 pub use Rattle.run_worker.specs.Shown.{CantShow, IsShown, IsShownWhole, most_places, shown_of, ShownView, Shows, TellsAlone}
+pub use Rattle.run_worker.specs.Timing.{due_behind, HearsNote, HearsNotes, HearsTurn, LosesTimer, SetsSleep, SleepsFor, SparesOwn}
+pub use Rattle.run_worker.specs.Waking.{HasParked, is_over, is_wake, own_job, StopsWaking, WakesAll, WakesNext, WakesSome}
+pub use Rattle.core_timers.specs.Timers.{Forgets, HasNoKey, IsAfter, IsVacant, LacksName, Sets, Timers}
+pub use Rattle.core_queues.specs.Waking.{FindsNoPark, IsParkedAs}
+pub use Rattle.actor_seat.specs.Wakes.{WakesOwn}
+pub use Rattle.run_worker.specs.declared.waking.Due.{Due}
 pub use Rattle.run_worker.specs.Together.{all_ends, desk_among, HaveEnded}
 pub use Rattle.run_worker.specs.Turns.{TakesTurn}
 pub use Rattle.run_worker.specs.Workers.{IsBellOf, KeepsOn, served_of, WorkerView}

@@ -1,5 +1,5 @@
 -- A look of a small worker that notes a poll for which no gate was asked is refused.
-use Rattle.run_worker.proofs.Names.{ap, arith, AsksFor, JobId, Journal, length, List, LooksAtAll, Meaning, polls_of, refl, RoundView, suc, sym, ℕ, [], ◌++◌, ◌+◌, ◌∙◌, ◌∷◌, ◌≡◌}
+use Rattle.run_worker.proofs.Names.{ap, arith, AsksFor, JobId, Journal, length, List, LooksAtAll, Meaning, Option, polls_of, refl, RoundView, suc, sym, ℕ, [], ◌++◌, ◌+◌, ◌∙◌, ◌∷◌, ◌≡◌}
 use Rattle.std.proofs.Common.{Bool}
 use Rattle.run_worker.proofs.Looked.{look_asks}
 
@@ -15,10 +15,10 @@ none_asked core [] before after asks = refl
 none_asked core (name ∷ polls) before after asks = absurd asks.2
 
 -- a poll is noted, and nobody is asked for it
-polls_unasked : (meaning : Meaning ℕ ℕ) (reads : ℕ → ℕ → ℕ → Type 0) (name : JobId) (old new : RoundView ℕ ℕ ℕ ℕ) (some : Bool) →
-    LooksAtAll meaning reads nobody old some new → polls_of (notes_in new) ≡ name ∷ polls_of (notes_in old) → ⊥
-polls_unasked meaning reads name old new some looks noted =
-    let since = look_asks meaning reads nobody old new some looks in
+polls_unasked : (meaning : Meaning ℕ ℕ) (sleeps : ℕ → Option ℕ) (reads : ℕ → ℕ → ℕ → Type 0) (name : JobId) (old new : RoundView ℕ ℕ ℕ ℕ) (some : Bool) →
+    LooksAtAll meaning sleeps reads nobody old some new → polls_of (notes_in new) ≡ name ∷ polls_of (notes_in old) → ⊥
+polls_unasked meaning sleeps reads name old new some looks noted =
+    let since = look_asks meaning sleeps reads nobody old new some looks in
     let none = none_asked old.served.linked.recorded.core.core since.polls old.gate new.gate since.asks in
     let longer : length (polls_of (notes_in old)) ≡ suc (length (polls_of (notes_in old))) = ap length (sym (since.told ∙ ap (λ polls. polls ++ polls_of (notes_in old)) none) ∙ noted) in
     omega (arith, longer)

@@ -53,12 +53,12 @@ is_asked : {due : Type 0} (old ready : SmallWorker) → due → HandsOnWhere (ta
 is_asked old ready due (inl (_, did, _)) = unasked old.sink ready.sink did.asked
 is_asked old ready due (inr (idle, _)) = idle due
 
-module _ (meaning : Meaning ℕ ℕ) (reads : ℕ → ℕ → ℕ → Type 0) (asked : ℕ → ℕ → JobId → ℕ → Type 0) where
+module _ (meaning : Meaning ℕ ℕ) (sleeps : ℕ → Option ℕ) (reads : ℕ → ℕ → ℕ → Type 0) (asked : ℕ → ℕ → JobId → ℕ → Type 0) where
   abbrev Goes : SmallWorker → Bool → SmallWorker → Type 0
-  Goes = GoesOn meaning reads asked (taker never silent)
+  Goes = GoesOn meaning sleeps reads asked (taker never silent)
 
   abbrev Sleeps : SmallWorker → Bool → SmallWorker → Type 0
-  Sleeps = Rests meaning reads asked (taker never silent)
+  Sleeps = Rests meaning sleeps reads asked (taker never silent)
 
   -- 63 notes are free where two rounds may write 64, and the note is kept before the round
   keeps_before_a_round : (again : Bool) → Goes (keeping 64) again (keeping 64) → ⊥
@@ -78,11 +78,11 @@ module _ (meaning : Meaning ℕ ℕ) (reads : ℕ → ℕ → ℕ → Type 0) (a
   keeps_before_a_rest found did = is_handed 1000 did.ready (refl, omega arith) (sym did.keeps.sink) did.hands
 
   -- its sink refused the note, and isn't asked again before the round
-  asks_no_more_before_a_round : (again : Bool) → GoesOn meaning reads asked (taker always twice) (keeping 64) again (keeping 64) → ⊥
+  asks_no_more_before_a_round : (again : Bool) → GoesOn meaning sleeps reads asked (taker always twice) (keeping 64) again (keeping 64) → ⊥
   asks_no_more_before_a_round again did = is_asked (keeping 64) did.ready (refl, inl (omega arith)) did.hands
 
   -- nor before the rest
-  asks_no_more_before_a_rest : (found : Bool) → Rests meaning reads asked (taker always twice) (keeping 1000) found (keeping 1000) → ⊥
+  asks_no_more_before_a_rest : (found : Bool) → Rests meaning sleeps reads asked (taker always twice) (keeping 1000) found (keeping 1000) → ⊥
   asks_no_more_before_a_rest found did = is_asked (keeping 1000) did.ready (refl, omega arith) did.hands
 
 -- a worker that tries two rounds more goes on behind the first idle round

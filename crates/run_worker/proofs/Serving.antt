@@ -20,7 +20,7 @@ module _ {J T : Type 0} where
   ready_provided true view ready = ready
 
   -- a step with at most so many notes leaves room for the end
-  spare_after : (old new : RecordedView J T) (count : ℕ) → IsSameSeat old new → IsReady false old →
+  pub spare_after : (old new : RecordedView J T) (count : ℕ) → IsSameSeat old new → IsReady false old →
       length new.journal.notes ≤ length old.journal.notes + count → count ≤ 4 * ((old.core.cores + 1) * (old.cap + 1)) + 2 * (old.core.bursts.burst - 1) → HasSpare new
   spare_after old new count seat ready longer few =
       let same_places : (new.core.cores + 1) * (new.cap + 1) ≡ (old.core.cores + 1) * (old.cap + 1) = ap (λ cores. (cores + 1) * (new.cap + 1)) seat.cores ∙ ap (λ cap. (old.core.cores + 1) * (cap + 1)) seat.cap in
@@ -112,7 +112,7 @@ module _ {J T : Type 0} where
     delivers_served sender false ending old new was now before between known does ready acts = unmoved ending old new now before ready does.delivers.1 acts
 
     -- gates that are shut in a core that was closed by an order
-    pub shuts_served : (old new : LinkedView J T) → IsLinked meaning new → IsBetweenTurns new.recorded → ShutsFirst (old.recorded.core.cores + 1) old new → IsReady false old.recorded →
+    pub shuts_served : {spared : ℕ} (old new : LinkedView J T) → IsLinked meaning new → IsBetweenTurns new.recorded → ShutsFirst spared (old.recorded.core.cores + 1) old new → IsReady false old.recorded →
         ActsAsItMay false old.recorded → IsServed meaning (record { linked = new; ending = false })
     shuts_served old new now between shuts ready acts = record {
       linked = now;

@@ -27,6 +27,7 @@ abbrev pub small_worker : LinkedView ℕ ℕ → Journal ℕ → ℕ → SmallWo
 small_worker linked sink tries = record {
   linked = linked;
   ending = false;
+  timers = [];
   clock = 0;
   gate = 0;
   last = None;

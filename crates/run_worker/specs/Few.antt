@@ -30,6 +30,10 @@ module _ {J T : Type 0} where
   abbrev pub taken_most : ServedView J T → ℕ
   taken_most view = view.linked.recorded.core.cores + 1 + (view.linked.recorded.core.cores + 1) * (2 * view.linked.recorded.cap)
 
+  -- wakes of jobs that slept: two for each place of a link
+  abbrev pub woken_most : ServedView J T → ℕ
+  woken_most view = 2 * view.linked.recorded.cap
+
   -- outcomes that are collected: one for each place of each link
   abbrev pub got_most : ServedView J T → ℕ
   got_most view = view.linked.recorded.core.cores * view.linked.recorded.cap

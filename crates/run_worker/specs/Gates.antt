@@ -1,5 +1,5 @@
 -- What is done to close a core and to shut all its gates.
-use Rattle.std.specs.Prelude.{◌≡◌, ◌⊎◌, ℕ, ◌+◌, ◌<◌, ◌≤◌, Some, [], ◌∷◌, length, IsSome}
+use Rattle.std.specs.Prelude.{◌≡◌, ◌≢◌, ◌⊎◌, ℕ, ◌+◌, ◌<◌, ◌≤◌, Some, [], ◌∷◌, length, IsSome}
 use Rattle.base_words.specs.declared.note.Note.TheVariants.{CoreClosed, Shut}
 use Rattle.base_words.specs.declared.order.Mode.TheVariants.{Return}
 use Rattle.base_words.specs.Journal.{EachNote}
@@ -45,9 +45,13 @@ module _ {J T : Type 0} where
     pub returning : core_mode new.recorded.journal.notes ≡ Some Return
     pub stays : StaysLinked old new
 
-  -- the gates of the first senders are shut, as many as the count says, and nothing else was done
-  pub record ShutsFirst (count : ℕ) (old new : LinkedView J T) : Type 0 where
-    pub shut : (sender : ℕ) → sender < count → IsShutWithin sender new.recorded
+  -- the same, unless this sender is the one that is spared: then nothing is done
+  abbrev pub LeavesUnless : ℕ → ℕ → LinkedView J T → LinkedView J T → Type 0
+  LeavesUnless spared sender old new = ((sender ≡ spared) × (new ≡ old)) ⊎ ((sender ≢ spared) × LeavesShut sender old new)
+
+  -- the gates of the first senders are shut, as many as the count says, except that of the one that is spared, and nothing else was done
+  pub record ShutsFirst (spared count : ℕ) (old new : LinkedView J T) : Type 0 where
+    pub shut : (sender : ℕ) → sender < count → sender ≢ spared → IsShutWithin sender new.recorded
     pub mode : core_mode new.recorded.journal.notes ≡ core_mode old.recorded.journal.notes
     pub longer : length new.recorded.journal.notes ≤ length old.recorded.journal.notes + count
     pub polls : NotesNoPoll old.recorded.journal.notes new.recorded.journal.notes

@@ -13,4 +13,7 @@ pub mod Looks
 pub mod Serves
 pub mod Together
 pub mod Readings
+pub mod Timing
 pub mod Again
+pub mod Waking
+pub mod Views

@@ -37,3 +37,7 @@ module _ {C : Type 0} (reads : C → ℕ → C → Type 0) where
   -- the clock is read behind a poll, and before it only where no reading was kept: so a poll took what lies between two readings in a row
   abbrev pub TimesNext : WatchView C → ℕ → WatchView C → Type 0
   TimesNext watch spent after = (begun : WatchView C) × BeginsNext watch begun × EndsNext begun spent after
+
+  -- the clock is read for something else than a poll
+  abbrev pub ReadsNow : WatchView C → ℕ → WatchView C → Type 0
+  ReadsNow watch now after = reads watch.clock now after.clock × (after ≡ record watch { clock = after.clock })

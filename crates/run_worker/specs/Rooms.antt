@@ -1,11 +1,16 @@
 -- How many notes a worker keeps free, and what it does where few are free.
-use Rattle.std.specs.Prelude.{◌≡◌, ◌≢◌, ◌⊎◌, ℕ, ◌+◌, ◌-◌, ◌*◌, ◌<◌, ◌≤◌, Bool, true, false, Some, [], length, unwrap_or, IsSome}
+use Rattle.std.specs.Prelude.{◌≡◌, ◌≢◌, ◌⊎◌, ℕ, ◌+◌, ◌-◌, ◌*◌, ◌<◌, ◌≤◌, Bool, true, false, Some, [], ◌∷◌, length, unwrap_or, IsSome}
+use Rattle.base_words.specs.declared.names.JobId.{JobId}
 use Rattle.base_words.specs.declared.note.Note.{Note}
 use Rattle.base_words.specs.declared.note.Note.TheVariants.{CoreClosed, Sent, Redeemed, Detached}
 use Rattle.base_words.specs.declared.order.Mode.TheVariants.{Return}
+use Rattle.base_words.specs.declared.order.Order.{Order}
+use Rattle.base_words.specs.declared.order.Order.TheVariants.{Wake}
 use Rattle.base_words.specs.Journal.{Journal, EachNote}
 use Rattle.base_words.specs.Closing.{core_mode, final_count}
-use Rattle.base_words.specs.Commands.{effect_awaited}
+use Rattle.base_words.specs.Commands.{effect_awaited, job_at}
+use Rattle.base_words.specs.Names.{among}
+use Rattle.base_words.specs.Parks.{parked}
 use Rattle.base_words.specs.Lines.{jobs_out}
 use Rattle.note_journal.specs.Journals.{free_notes}
 use Rattle.actor_core.specs.Recorded.{RecordedView, given_count, sum_upto}
@@ -23,13 +28,23 @@ module _ {T : Type 0} where
   abbrev pub IsPolling : Journal T → Type 0
   IsPolling before = jobs_out before ≢ []
 
+  -- a wake that the core sends to itself, of a job of its own that is parked
+  abbrev pub WakesOwnPark : JobId → Order (Unit {0}) → Journal T → Type 0
+  WakesOwnPark name (Wake actor number) before = (name.from ≡ name.to) × ((queue : ℕ) × (among (job_at name.to actor number) (parked queue before) ≡ true))
+  WakesOwnPark name _ before = ⊥
+
+  -- the last note is that such a wake was sent, under this name
+  abbrev pub HasJustWoken : JobId → Journal T → Type 0
+  HasJustWoken name (Sent other order ∷ before) = (name ≡ other) × WakesOwnPark other order before
+  HasJustWoken name _ = ⊥
+
   -- The core closes where a command to close it was just answered, or by itself in mode `Return` where the journal is short. It sends, redeems and
-  -- lets go only while one of its jobs is being polled.
+  -- lets go only while one of its jobs is being polled, except that it sends itself a wake of a job that is parked, and lets go of that at once.
   abbrev pub MayAct : ℕ → ℕ → Note T → Journal T → Type 0
   MayAct least room (CoreClosed mode) before = IsSome (effect_awaited before) ⊎ ((mode ≡ Return) × (length before ≤ room) × (room - length before < least))
-  MayAct least room (Sent name order) before = IsPolling before
+  MayAct least room (Sent name order) before = IsPolling before ⊎ WakesOwnPark name order before
   MayAct least room (Redeemed name outcome) before = IsPolling before
-  MayAct least room (Detached name) before = IsPolling before
+  MayAct least room (Detached name) before = IsPolling before ⊎ HasJustWoken name before
   MayAct least room _ before = Unit {0}
 
   -- the core never closed by itself, since no count of free notes is below 0

@@ -41,15 +41,15 @@ module _ {J T : Type 0} where
   IsHeard sender old new =
       IsAllTaken sender new ⊎ ((in_at sender old.ends).inward.taken + old.recorded.cap ≤ (in_at sender new.ends).inward.taken)
 
-  -- each open gate of a core that is closed was shut
-  abbrev pub HasShutGates : LinkedView J T → Type 0
-  HasShutGates view =
-      IsSome (core_mode view.recorded.journal.notes) → (sender : ℕ) → sender ≤ view.recorded.core.cores → IsSome (final_count sender view.recorded.journal.notes)
+  -- each open gate of a core that is closed was shut, except that of the sender that is spared
+  abbrev pub HasShutGates : ℕ → LinkedView J T → Type 0
+  HasShutGates spared view =
+      IsSome (core_mode view.recorded.journal.notes) → (sender : ℕ) → sender ≤ view.recorded.core.cores → sender ≢ spared → IsSome (final_count sender view.recorded.journal.notes)
 
-  -- each gate of a core that was closed before is shut
-  abbrev pub ShutsClosed : LinkedView J T → LinkedView J T → Type 0
-  ShutsClosed old new =
-      IsSome (core_mode old.recorded.journal.notes) → (sender : ℕ) → sender ≤ old.recorded.core.cores → IsSome (final_count sender new.recorded.journal.notes)
+  -- each gate of a core that was closed before is shut, except that of the sender that is spared
+  abbrev pub ShutsClosed : ℕ → LinkedView J T → LinkedView J T → Type 0
+  ShutsClosed spared old new =
+      IsSome (core_mode old.recorded.journal.notes) → (sender : ℕ) → sender ≤ old.recorded.core.cores → sender ≢ spared → IsSome (final_count sender new.recorded.journal.notes)
 
   -- A worker at its end stays there. One that isn't at its end did nothing before the step. It comes to its end only where the journal is short.
   pub record LooksAtRoom (old new : ServedView J T) : Type 0 where

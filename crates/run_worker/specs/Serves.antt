@@ -1,10 +1,11 @@
 -- How a worker serves its core: round after round, and a rest where nothing is to be done.
-use Rattle.std.specs.Prelude.{◌≡◌, ◌⊎◌, ℕ, ◌+◌, ◌≤◌, ◌<◌, Bool, true, false, nat_lt, if◌then◌else◌, List, [], ◌∷◌}
+use Rattle.std.specs.Prelude.{◌≡◌, ◌⊎◌, ℕ, ◌+◌, ◌≤◌, ◌<◌, Bool, true, false, nat_lt, if◌then◌else◌, Option, List, [], ◌∷◌}
 use Rattle.base_words.specs.declared.names.JobId.{JobId}
 use Rattle.note_journal.specs.declared.sink.Sink as taking
 use Rattle.base_jobs.specs.Meanings.{Meaning}
 use Rattle.run_worker.specs.Ended.{EndedView}
-use Rattle.run_worker.specs.Looks.{LooksAtAll, MakesRound, RoundView}
+use Rattle.run_worker.specs.Looks.{LooksAtAll, MakesRound}
+use Rattle.run_worker.specs.Views.{RoundView}
 use Rattle.run_worker.specs.Passing.{HandsOn, HandsOnWhere, IsDue, IsDueAtRest}
 use Rattle.run_worker.specs.Readings.{watch_view}
 use Rattle.run_worker.specs.Shown.{Shows, shown_each}
@@ -18,9 +19,9 @@ CountsIdle tries false idle true later = (idle < tries) × (later ≡ idle + 1)
 CountsIdle tries false idle false later = (tries ≤ idle) × (later ≡ idle)
 
 module _ {J T C G S : Type 0} where
-  -- its core, the watch and the gate that serve it, and its turns without a look
+  -- its core, its timers, the watch and the gate that serve it, and its turns without a look
   abbrev pub round_of : WorkerView J T C G S → RoundView J T C G
-  round_of worker = record { served = served_of worker; watch = watch_view worker.clock worker.last worker.taken; gate = worker.gate; turns = worker.turns }
+  round_of worker = record { served = served_of worker; timers = worker.timers; watch = watch_view worker.clock worker.last worker.taken; gate = worker.gate; turns = worker.turns }
 
   -- the worker tries as often as before, and rings the same bells; its sink isn't asked, and nothing is published
   pub record KeepsTries (old new : WorkerView J T C G S) : Type 0 where
@@ -47,13 +48,13 @@ module _ {J T C G S : Type 0} where
   abbrev pub ShowsAgain : WorkerView J T C G S → WorkerView J T C G S → Type 0
   ShowsAgain old new = ((shown_each ≤ old.since) × ShowsNow old new) ⊎ ((old.since < shown_each) × (new ≡ counted_round old))
 
-module _ {J C G S : Type 0} (meaning : Meaning J ℕ) (reads : C → ℕ → C → Type 0) (asked : G → ℕ → JobId → G → Type 0) (takes : taking.Ghosts S) where
+module _ {J C G S : Type 0} (meaning : Meaning J ℕ) (sleeps : J → Option ℕ) (reads : C → ℕ → C → Type 0) (asked : G → ℕ → JobId → G → Type 0) (takes : taking.Ghosts S) where
   -- notes are passed on where the journal is low, and then there is one round; and whether the next one is made at once
   pub record GoesOn (old : WorkerView J ℕ C G S) (again : Bool) (new : WorkerView J ℕ C G S) : Type 0 where
     pub ready : WorkerView J ℕ C G S
     pub hands : HandsOnWhere takes (IsDue (served_of old)) old ready
     pub some : Bool
-    pub makes : MakesRound meaning reads asked (nat_lt 0 ready.idle) (round_of ready) some (round_of new)
+    pub makes : MakesRound meaning sleeps reads asked (nat_lt 0 ready.idle) (round_of ready) some (round_of new)
     pub counts : CountsIdle ready.tries some ready.idle again new.idle
     pub keeps : KeepsTries ready new
 
@@ -61,7 +62,7 @@ module _ {J C G S : Type 0} (meaning : Meaning J ℕ) (reads : C → ℕ → C �
   pub record Rests (old : WorkerView J ℕ C G S) (found : Bool) (new : WorkerView J ℕ C G S) : Type 0 where
     pub ready : WorkerView J ℕ C G S
     pub hands : HandsOnWhere takes (IsDueAtRest (served_of old)) old ready
-    pub looks : LooksAtAll meaning reads asked (round_of ready) found (round_of new)
+    pub looks : LooksAtAll meaning sleeps reads asked (round_of ready) found (round_of new)
     pub counts : new.idle ≡ (if found then 0 else ready.idle)
     pub keeps : KeepsTries ready new
 

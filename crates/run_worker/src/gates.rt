@@ -4,7 +4,7 @@ ghost use Rattle.std.specs.Prelude.{◌≡◌, ◌+◌, ◌<◌, ◌≤◌, IsSo
 ghost use Rattle.base_words.specs.Closing.{core_mode};
 ghost use Rattle.run_worker.specs.Asks.{NotesNoPoll};
 ghost use Rattle.actor_seat.specs.Linked.{IsLinked, StaysLinked};
-ghost use Rattle.run_worker.specs.Gates.{LeavesShut, ShutsFirst};
+ghost use Rattle.run_worker.specs.Gates.{LeavesShut, LeavesUnless, ShutsFirst};
 ghost use Rattle.run_worker.specs.Rooms.{ActsAsItMay, ActsByCommand, HasSpare, IsEnding, IsShort, least_free};
 ghost use Rattle.run_worker.specs.Rounds.{TellsNotes};
 ghost use Rattle.run_worker.specs.Shown.{TellsAlone};
@@ -41,19 +41,35 @@ fn shut_if_open<J: Task<Out = u64>>(seat: &mut Seat<J>, sender: ActorNo) -> bool
     !shut
 }
 
-/// Shuts each gate that is open, in a closed core of a house of so many. Whether there was one.
-pub(crate) fn shut_gates<J: Task<Out = u64>>(seat: &mut Seat<J>, cores: u8) -> bool
+/// The same, unless this sender is spared.
+fn shut_unless<J: Task<Out = u64>>(seat: &mut Seat<J>, sender: ActorNo, spared: usize) -> bool
+    requires known { sender ≤ seat.old.recorded.core.cores }
+    requires closed { IsSome (core_mode seat.old.recorded.journal.notes) }
+    requires room { length seat.old.recorded.journal.notes < seat.old.recorded.journal.room }
+    requires linked { IsLinked J.meaning seat.old }
+    ensures leaves { LeavesUnless spared sender seat.old seat.new }
+    ensures tells { TellsNotes result seat.old.recorded.journal.notes seat.new.recorded.journal.notes }
+    ensures linked { IsLinked J.meaning seat.new }
+{
+    if sender.0 as usize == spared {
+        return false;
+    }
+    shut_if_open(seat, sender)
+}
+
+/// Shuts each gate that is open, in a closed core of a house of so many, except that of the sender that is spared. Whether there was one.
+pub(crate) fn shut_gates<J: Task<Out = u64>>(seat: &mut Seat<J>, cores: u8, spared: usize) -> bool
     requires closed { IsSome (core_mode seat.old.recorded.journal.notes) }
     requires room { length seat.old.recorded.journal.notes + seat.old.recorded.core.cores + 1 ≤ seat.old.recorded.journal.room }
     requires linked { IsLinked J.meaning seat.old }
     requires cores { cores ≡ seat.old.recorded.core.cores }
-    ensures shuts { ShutsFirst (seat.old.recorded.core.cores + 1) seat.old seat.new }
+    ensures shuts { ShutsFirst spared (seat.old.recorded.core.cores + 1) seat.old seat.new }
     ensures tells { TellsNotes result seat.old.recorded.journal.notes seat.new.recorded.journal.notes }
     ensures linked { IsLinked J.meaning seat.new }
 {
     let mut some = false;
     for sender in 0..cores as usize + 1 {
-        if shut_if_open(seat, ActorNo(sender as u8)) {
+        if shut_unless(seat, ActorNo(sender as u8), spared) {
             some = true;
         }
     }
@@ -79,6 +95,7 @@ pub(crate) fn end<J: Task<Out = u64>>(seat: &mut Seat<J>, cores: u8) -> bool
     ensures linked { IsLinked J.meaning seat.new }
 {
     let alone = seat.close(Mode::Return);
-    shut_gates(seat, cores);
+    // All of them: no sender has this number.
+    shut_gates(seat, cores, cores as usize + 1);
     alone
 }

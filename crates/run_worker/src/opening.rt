@@ -1,6 +1,6 @@
 //! How a worker is opened over the ends of its actor.
 
-ghost use Rattle.std.specs.Prelude.{◌≡◌, ◌+◌, ◌<◌, ◌≤◌, [], ◌∷◌, IfOk, OnOk, false, length};
+ghost use Rattle.std.specs.Prelude.{◌≡◌, ◌+◌, ◌<◌, ◌^◌, ◌≤◌, [], ◌∷◌, IfOk, OnOk, false, length};
 ghost use Rattle.base_words.specs.declared.note.Note.TheVariants.{Created};
 ghost use Rattle.base_words.specs.Commands.{IsOpening, created_count};
 ghost use Rattle.run_config.specs.Configs.{least_room, queues_of};
@@ -17,11 +17,19 @@ use actor_core::Recorded;
 use actor_seat::Bells;
 use base_jobs::Task;
 use base_words::{ActorNo, CoreNo, Shares};
+use core_timers::Timers;
 use link_ring::Ends;
 use note_journal::Sink;
 use run_config::Config;
 use run_watch::{Terms, Watcher};
 use std::alloc::{AllocError, Global};
+
+/// How many jobs may be inside a core: each place of each link to it may hold one.
+fn places_of(config: &Config) -> usize
+    ensures { result < 2 ^ 31 }
+{
+    (config.cores as usize + 1) * config.cap as usize
+}
 
 /// Makes the next queue, before anything else is done.
 fn create_one<J: Task<Out = u64>>(
@@ -146,9 +154,12 @@ impl<J: Task<Out = u64>, C: Drop, G: Drop, S: Sink> Worker<J, C, G, S> {
             places: PLACES,
         };
         let (publisher, watcher) = run_watch::open(alloc, terms)?;
+        let timers = Timers::open(alloc, places_of(config))?;
         // The core is opened last: so nothing that drops it stands behind it.
         let served = serve_core(alloc, config, ends)?;
-        let worker = Worker::of(served, clock, gate, own, all, sink, local, publisher);
+        let worker = Worker::of(
+            served, timers, clock, gate, own, all, sink, local, publisher,
+        );
         Ok((worker, watcher))
     }
 }

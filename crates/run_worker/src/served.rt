@@ -7,7 +7,7 @@
 //! - At its end it only delivers and hands back, two notes a step: nothing is polled or collected, and no notes are passed on.
 //! - `alone` says that the close was the worker's own. It is published, and no step asks for it.
 
-ghost use Rattle.std.specs.Prelude.{◌≡◌, ◌+◌, ◌*◌, ◌<◌, ◌≤◌, ◌↔◌, IsSome, IsTrue, drop, false, is_some, length, reverse, true};
+ghost use Rattle.std.specs.Prelude.{◌≡◌, ◌+◌, ◌*◌, ◌<◌, ◌≤◌, ◌↔◌, IsSome, IsTrue, drop, false, if◌then◌else◌, is_some, length, reverse, true};
 ghost use Rattle.base_words.specs.Closing.{IsDrained, core_mode};
 ghost use Rattle.actor_core.specs.Recorded.{IsRecorded};
 ghost use Rattle.run_worker.specs.Asks.{NotesNoPoll};
@@ -45,7 +45,7 @@ fn is_work(made: Turned) -> bool
 
 /// Wakes the workers that have something from the notes behind the first `count` that are kept.
 #[inline(always)]
-fn ring_since(bells: &mut Bells, journal: &RunningJournal<u64>, count: usize)
+pub(crate) fn ring_since(bells: &mut Bells, journal: &RunningJournal<u64>, count: usize)
     requires { length journal.now.passed + count ≤ length journal.now.notes }
     ensures { bells.new ≡ record bells.old { rings = rung_for (drop (length journal.now.passed + count) (reverse journal.now.notes)) bells.old.rings } }
 {
@@ -146,7 +146,7 @@ impl<J: Task<Out = u64>> Served<J> {
     }
 
     /// Looks at the room before a step: a journal that is short is at its end.
-    fn look(&mut self)
+    pub(crate) fn look(&mut self)
         ensures stays { StaysLinked self.old.linked self.new.linked }
         ensures looks { LooksAtRoom self.old self.new }
         ensures ready { IsReady self.new.ending self.new.linked.recorded }
@@ -229,6 +229,17 @@ impl<J: Task<Out = u64>> Served<J> {
         some
     }
 
+    /// The sender whose gate a closed core spares: itself, as long as a job sleeps, and otherwise none.
+    pub(crate) fn spared(&self, sleeps: bool) -> usize
+        ensures { result ≡ (if sleeps then self.now.linked.recorded.core.core else self.now.linked.recorded.core.cores + 1) }
+    {
+        if sleeps {
+            self.seat.actor().0 as usize
+        } else {
+            self.cores as usize + 1
+        }
+    }
+
     /// Whether a turn would poll a job or hand one back.
     fn has_turn(&self) -> bool
         ensures none { result ≡ false → HasNoTurn self.now.linked.recorded.journal.notes }
@@ -273,10 +284,11 @@ impl<J: Task<Out = u64>> Served<J> {
         self.seat.recorded().journal()
     }
 
-    /// Shuts the open gates of a core that was closed. Whether there was one. In an open core nothing is done.
-    fn close_gates(&mut self) -> bool
+    /// Shuts the open gates of a core that was closed, except that of the sender that is spared. Whether there was one. In an open core
+    /// nothing is done.
+    fn close_gates(&mut self, spared: usize) -> bool
         ensures steps { StepsServed (self.old.linked.recorded.core.cores + 1) self.old result self.new }
-        ensures shuts { HasShutGates self.new.linked }
+        ensures shuts { HasShutGates spared self.new.linked }
         ensures taken { self.new.ending ≡ self.old.ending → KeepsTaken self.old.linked self.new.linked }
         ensures polls { NotesNoPoll self.old.linked.recorded.journal.notes self.new.linked.recorded.journal.notes }
     {
@@ -284,16 +296,16 @@ impl<J: Task<Out = u64>> Served<J> {
         if !closed {
             return false;
         }
-        self.shut_if_closed()
+        self.shut_if_closed(spared)
     }
 
     /// The same, once the room was looked at. It stands apart, so that a round of an open core stays short.
     #[cold]
     #[inline(never)]
-    fn shut_if_closed(&mut self) -> bool
+    fn shut_if_closed(&mut self, spared: usize) -> bool
         requires closed { IsSome (core_mode self.old.linked.recorded.journal.notes) }
         ensures steps { StepsServed (self.old.linked.recorded.core.cores + 1) self.old result self.new }
-        ensures shuts { HasShutGates self.new.linked }
+        ensures shuts { HasShutGates spared self.new.linked }
         ensures taken { self.new.ending ≡ self.old.ending → KeepsTaken self.old.linked self.new.linked }
         ensures polls { NotesNoPoll self.old.linked.recorded.journal.notes self.new.linked.recorded.journal.notes }
     {
@@ -302,14 +314,14 @@ impl<J: Task<Out = u64>> Served<J> {
         if self.ending {
             return false;
         }
-        shut_gates(&mut self.seat, self.cores)
+        shut_gates(&mut self.seat, self.cores, spared)
     }
 
-    /// Shuts the gates of a closed core, and delivers what shows. Whether anything was done.
-    pub(crate) fn take_in(&mut self, bells: &mut Bells) -> bool
+    /// Shuts the gates of a closed core, except that of the sender that is spared, and delivers what shows. Whether anything was done.
+    pub(crate) fn take_in(&mut self, bells: &mut Bells, spared: usize) -> bool
         requires rung { AreRung self.old bells.old }
         ensures steps { StepsServed (taken_most self.old) self.old result self.new }
-        ensures shuts { ShutsClosed self.old.linked self.new.linked }
+        ensures shuts { ShutsClosed spared self.old.linked self.new.linked }
         ensures hears { HearsAll (self.old.linked.recorded.core.cores + 1) self.old self.new }
         ensures sound { IsServed J.meaning self.new }
         ensures polls { NotesNoPoll self.old.linked.recorded.journal.notes self.new.linked.recorded.journal.notes }
@@ -317,7 +329,7 @@ impl<J: Task<Out = u64>> Served<J> {
         ensures names { bells.new.names ≡ bells.old.names }
     {
         let before = self.journal().kept_count();
-        let shut = self.close_gates();
+        let shut = self.close_gates(spared);
         let delivered = self.deliver_all();
         ring_since(bells, self.journal(), before);
         shut | delivered

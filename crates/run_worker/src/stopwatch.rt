@@ -1,7 +1,7 @@
 //! How a worker measures its polls: by the readings of its clock, each from the end of the one before where it goes straight on.
 
-ghost use Rattle.std.specs.Prelude.{◌≡◌, None};
-ghost use Rattle.run_worker.specs.Readings.{kept_behind};
+ghost use Rattle.std.specs.Prelude.{◌≡◌, None, unwrap_or};
+ghost use Rattle.run_worker.specs.Readings.{ReadsNow, kept_behind};
 
 use core_queues::Meter;
 use run_config::{Clock, spent_between};
@@ -37,6 +37,13 @@ impl<C> Stopwatch<C> {
         }
     }
 
+    /// What the clock told behind the last poll, or 0 if that isn't kept.
+    pub(crate) fn last(&self) -> u64
+        ensures { result ≡ unwrap_or self.now.last 0 }
+    {
+        self.last.unwrap_or(0)
+    }
+
     /// The nanoseconds that the polls took together since `forget`.
     pub(crate) fn taken(&self) -> u64
         ensures { result ≡ self.now.taken }
@@ -52,6 +59,15 @@ impl<C> Stopwatch<C> {
         if !turned {
             self.last = None;
         }
+    }
+}
+
+impl<C: Clock> Stopwatch<C> {
+    /// Reads the clock for something else than a poll.
+    pub(crate) fn read(&mut self) -> u64
+        ensures { ReadsNow C.Reads self.old result self.new }
+    {
+        self.clock.now()
     }
 }
 

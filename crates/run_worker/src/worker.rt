@@ -13,6 +13,7 @@
 
 ghost use Rattle.std.specs.Prelude.{◌≡◌, false, if◌then◌else◌};
 ghost use Rattle.base_words.specs.Closing.{IsDrained};
+ghost use Rattle.core_timers.specs.Timers.{IsVacant};
 ghost use Rattle.run_worker.specs.Asks.{AsksSince};
 ghost use Rattle.run_worker.specs.Rounds.{AreRung};
 ghost use Rattle.run_worker.specs.Shown.{IsShown, Shows, shown_of};
@@ -27,10 +28,12 @@ use crate::served::Served;
 use crate::showing::SHOWN_EACH;
 use actor_seat::{Bells, OwnBell};
 use base_jobs::{Job, Task};
+use core_timers::Timers;
 use note_journal::{Sink, Whole};
 use run_config::{Clock, Gate};
 use run_team::{Promised, Work};
 use run_watch::Publisher;
+use std::alloc::Global;
 use std::marker::Model;
 use std::sync::Wait;
 
@@ -93,6 +96,7 @@ impl<J: Task<Out = u64>, C: Drop, G: Drop, S: Sink> Model for Worker<J, C, G, S>
         record {
           linked = w.rounds.served.linked;
           ending = w.rounds.served.ending;
+          timers = w.rounds.timers;
           clock = w.rounds.watch.clock;
           gate = w.rounds.gate;
           last = w.rounds.watch.last;
@@ -115,6 +119,7 @@ impl<J: Task<Out = u64>, C: Drop, G: Drop, S: Sink> Worker<J, C, G, S> {
     /// A worker that has not begun. It parks on its own bell, rings those of all cores, and passes on its notes to this sink.
     pub(crate) fn of(
         served: Served<J>,
+        timers: Timers<Global>,
         clock: C,
         gate: G,
         own: OwnBell<Rounds<J, C, G>>,
@@ -126,6 +131,7 @@ impl<J: Task<Out = u64>, C: Drop, G: Drop, S: Sink> Worker<J, C, G, S> {
         requires own { IsBellOf served.linked.recorded.core.core bells.names own }
         requires rung { AreRung served bells }
         requires ending { served.ending ≡ false }
+        requires vacant { IsVacant timers }
         requires passes { PassesTo S.has S.refused served sink }
         requires shown { IsShown served.linked.recorded (shown_of publisher) }
         ensures linked { result.linked ≡ served.linked }
@@ -140,7 +146,7 @@ impl<J: Task<Out = u64>, C: Drop, G: Drop, S: Sink> Worker<J, C, G, S> {
     {
         Worker {
             own,
-            rounds: Rounds::of(served, clock, gate, bells),
+            rounds: Rounds::of(served, timers, clock, gate, bells),
             sink,
             tries: TRIES,
             idle: 0,
@@ -235,7 +241,7 @@ impl<J: Task<Out = u64>, C: Drop, G: Drop, S: Sink> Worker<J, C, G, S> {
 impl<J: Job + Task<Out = u64>, C: Clock + Drop, G: Gate + Drop, S: Sink> Worker<J, C, G, S> {
     /// Passes on what is kept, lies down, looks once more, and parks until its bell rings if there was nothing. Whether there was something.
     fn rests<R: Wait>(&mut self, rt: &R) -> bool
-        ensures { Rests J.meaning C.Reads G.Asked S.Sink self.old result self.new }
+        ensures { Rests J.meaning J.sleeps C.Reads G.Asked S.Sink self.old result self.new }
     {
         self.hand_on_if_kept();
         let found = self
@@ -250,7 +256,7 @@ impl<J: Job + Task<Out = u64>, C: Clock + Drop, G: Gate + Drop, S: Sink> Worker<
     /// Passes on what is kept if the journal is low, and makes one round. Whether the next one is made at once: unless nothing was to be done in
     /// it and in so many rounds before it.
     fn goes_on(&mut self) -> bool
-        ensures { GoesOn J.meaning C.Reads G.Asked S.Sink self.old result self.new }
+        ensures { GoesOn J.meaning J.sleeps C.Reads G.Asked S.Sink self.old result self.new }
     {
         self.hand_on_if_low();
         let some = self.rounds.round(self.idle > 0, &mut self.local);
@@ -262,7 +268,7 @@ impl<J: Job + Task<Out = u64>, C: Clock + Drop, G: Gate + Drop, S: Sink> Worker<
     /// Publishes if it is time, makes one round, and publishes and rests if the next one isn't made at once. If the worker came to its end, it
     /// publishes at once.
     fn serve<R: Wait>(&mut self, rt: &R)
-        ensures { Serves J.meaning C.Reads G.Asked S.Sink self.old self.new }
+        ensures { Serves J.meaning J.sleeps C.Reads G.Asked S.Sink self.old self.new }
     {
         self.show_again();
         let was = self.rounds.served.is_ending();
@@ -285,7 +291,7 @@ impl<J: Job + Task<Out = u64>, C: Clock + Drop, G: Gate + Drop, S: Sink> Work
     for Worker<J, C, G, S> {
     fn run<R: Wait>(self, rt: &R) -> Ended<J, S>
         ensures keeps { KeepsOn S.mark self result }
-        ensures serves { ServesToItsEnd J.meaning C.Reads G.Asked S.Sink self result }
+        ensures serves { ServesToItsEnd J.meaning J.sleeps C.Reads G.Asked S.Sink self result }
         ensures asks { (gate : G) × AsksSince G.Asked self.linked.recorded.core.core self.linked.recorded.journal.notes result.linked.recorded.journal.notes self.gate gate }
     {
         let mut worker = self;

@@ -1,28 +1,28 @@
 use Rattle.run_worker.proofs.Names.{arith, IsSome, refl, subst, sym, TellsNotes}
 use Rattle.run_worker.proofs.Gated.{shuts_none, shuts_more}
 use Rattle.run_worker.proofs.Telling.{tells_true, tells_false}
-use Rattle.run_worker.proofs.gates.shut_gates.Goals.{then-shut_if_open, else-shut_if_open}
+use Rattle.run_worker.proofs.gates.shut_gates.Goals.{then-shut_unless, else-shut_unless}
 use Rattle.run_worker.proofs.gates.shut_gates.Goals as goal
 
 pub loop-sender-init : goal.loop-sender-init
-loop-sender-init g c = record { first = shuts_none c.args.seat.now; tells = refl; linked = c.requires.linked; end = omega (arith, c.requires.cores) }
+loop-sender-init g c = record { first = shuts_none c.args.spared c.args.seat.now; tells = refl; linked = c.requires.linked; end = omega (arith, c.requires.cores) }
 
-pub shut_if_open-requires-clause-closed : goal.shut_if_open-requires-clause-closed
-shut_if_open-requires-clause-closed g c = subst (λ mode. IsSome mode) (sym c.loop-sender.invariant.first.mode) c.requires.closed
+pub shut_unless-requires-clause-closed : goal.shut_unless-requires-clause-closed
+shut_unless-requires-clause-closed g c = subst (λ mode. IsSome mode) (sym c.loop-sender.invariant.first.mode) c.requires.closed
 
 pub loop-sender-preserved : goal.loop-sender-preserved
 loop-sender-preserved g c = record {
-  first = shuts_more _ _ _ _ c.loop-sender.invariant.first c.shut_if_open.ensures.leaves;
-  tells = elim c.if-shut_if_open.branch [
-    | then-shut_if_open w ↦
-        subst (λ some. TellsNotes some c.args.seat.now.recorded.journal.notes c.shut_if_open.new.seat.recorded.journal.notes) (sym w.some-is)
-        (tells_true c.args.seat.now.recorded.journal.notes c.loop-sender.seat.recorded.journal.notes c.shut_if_open.new.seat.recorded.journal.notes c.loop-sender.invariant.first.stays.grows
-        (subst (λ found. TellsNotes found c.loop-sender.seat.recorded.journal.notes c.shut_if_open.new.seat.recorded.journal.notes) w.if-shut_if_open.true c.shut_if_open.ensures.tells))
-    | else-shut_if_open w ↦
-        subst (λ some. TellsNotes some c.args.seat.now.recorded.journal.notes c.shut_if_open.new.seat.recorded.journal.notes) (sym w.some-is)
-        (tells_false c.loop-sender.some c.args.seat.now.recorded.journal.notes c.loop-sender.seat.recorded.journal.notes c.shut_if_open.new.seat.recorded.journal.notes c.loop-sender.invariant.tells
-        (subst (λ found. TellsNotes found c.loop-sender.seat.recorded.journal.notes c.shut_if_open.new.seat.recorded.journal.notes) w.if-shut_if_open.false c.shut_if_open.ensures.tells))
+  first = shuts_more _ _ _ _ _ c.loop-sender.invariant.first c.shut_unless.ensures.leaves;
+  tells = elim c.if-shut_unless.branch [
+    | then-shut_unless w ↦
+        subst (λ some. TellsNotes some c.args.seat.now.recorded.journal.notes c.shut_unless.new.seat.recorded.journal.notes) (sym w.some-is)
+        (tells_true c.args.seat.now.recorded.journal.notes c.loop-sender.seat.recorded.journal.notes c.shut_unless.new.seat.recorded.journal.notes c.loop-sender.invariant.first.stays.grows
+        (subst (λ found. TellsNotes found c.loop-sender.seat.recorded.journal.notes c.shut_unless.new.seat.recorded.journal.notes) w.if-shut_unless.true c.shut_unless.ensures.tells))
+    | else-shut_unless w ↦
+        subst (λ some. TellsNotes some c.args.seat.now.recorded.journal.notes c.shut_unless.new.seat.recorded.journal.notes) (sym w.some-is)
+        (tells_false c.loop-sender.some c.args.seat.now.recorded.journal.notes c.loop-sender.seat.recorded.journal.notes c.shut_unless.new.seat.recorded.journal.notes c.loop-sender.invariant.tells
+        (subst (λ found. TellsNotes found c.loop-sender.seat.recorded.journal.notes c.shut_unless.new.seat.recorded.journal.notes) w.if-shut_unless.false c.shut_unless.ensures.tells))
   ];
-  linked = c.shut_if_open.ensures.linked;
+  linked = c.shut_unless.ensures.linked;
   end = c.loop-sender.invariant.end;
 }

@@ -7,21 +7,32 @@ returns-then-turn_alone-clause-makes g c = inl (refl, rw c.if-turn_alone.true at
 pub returns-then-has_nothing-clause-makes : goal.returns-then-has_nothing-clause-makes
 returns-then-has_nothing-clause-makes g c =
     inr (
-      round_view c.turn_alone.new.self.served c.turn_alone.new.self.watch c.turn_alone.new.self.gate c.turn_alone.new.self.turns,
+      round_view c.turn_alone.new.self.served c.turn_alone.new.self.timers c.turn_alone.new.self.watch c.turn_alone.new.self.gate c.turn_alone.new.self.turns,
       rw c.if-turn_alone.false at c.turn_alone.ensures.alone,
-      inr (c.has_nothing.ensures.idle c.if-has_nothing.true, c.has_nothing.ensures.no_turn c.if-has_nothing.true, refl, refl),
+      (
+        round_view c.has_nothing.new.self.served c.has_nothing.new.self.timers c.has_nothing.new.self.watch c.has_nothing.new.self.gate c.has_nothing.new.self.turns,
+        c.has_nothing.ensures.peeks,
+        inr (c.has_nothing.ensures.idle c.if-has_nothing.true, c.has_nothing.ensures.none_due c.if-has_nothing.true, c.has_nothing.ensures.no_turn c.if-has_nothing.true, refl, refl),
+      ),
     )
 
 pub returns-clause-makes : goal.returns-clause-makes
 returns-clause-makes g c =
     inr (
-      round_view c.turn_alone.new.self.served c.turn_alone.new.self.watch c.turn_alone.new.self.gate c.turn_alone.new.self.turns,
+      round_view c.turn_alone.new.self.served c.turn_alone.new.self.timers c.turn_alone.new.self.watch c.turn_alone.new.self.gate c.turn_alone.new.self.turns,
       rw c.if-turn_alone.false at c.turn_alone.ensures.alone,
-      inl c.look_again.ensures.all,
+      (
+        round_view c.has_nothing.new.self.served c.has_nothing.new.self.timers c.has_nothing.new.self.watch c.has_nothing.new.self.gate c.has_nothing.new.self.turns,
+        c.has_nothing.ensures.peeks,
+        inl c.look_again.ensures.all,
+      ),
     )
 
 pub returns-clause-rung : goal.returns-clause-rung
 returns-clause-rung g c = c.look_again.ensures.rings
 
 pub returns-clause-names : goal.returns-clause-names
-returns-clause-names g c = c.look_again.ensures.names ∙ c.turn_alone.ensures.names
+returns-clause-names g c = c.look_again.ensures.names ∙ (c.has_nothing.ensures.names ∙ c.turn_alone.ensures.names)
+
+pub returns-then-has_nothing-clause-names : goal.returns-then-has_nothing-clause-names
+returns-then-has_nothing-clause-names g c = c.has_nothing.ensures.names ∙ c.turn_alone.ensures.names

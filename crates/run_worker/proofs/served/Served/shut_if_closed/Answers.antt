@@ -18,7 +18,7 @@ invariant_of-self g c = (
 )
 
 pub returns-clause-shuts : goal.returns-clause-shuts
-returns-clause-shuts g c = λ some sender known. (c.shut_gates.ensures.shuts.shut sender (omega (arith, known, c.shut_gates.ensures.shuts.stays.seat.cores))).gate
+returns-clause-shuts g c = λ some sender known spare. (c.shut_gates.ensures.shuts.shut sender (omega (arith, known, c.shut_gates.ensures.shuts.stays.seat.cores)) spare).gate
 
 pub returns-clause-polls : goal.returns-clause-polls
 returns-clause-polls g c = c.shut_gates.ensures.shuts.polls ∙ (ap (λ view. polls_of view.linked.recorded.journal.notes) c.self.view_is ∙ c.look.ensures.polls)
@@ -28,7 +28,7 @@ returns-then-self-clause-steps g c = looked_alone _ c.args.self.now c.look.new.s
 
 -- at its end each gate is shut
 pub returns-then-self-clause-shuts : goal.returns-then-self-clause-shuts
-returns-then-self-clause-shuts g c = λ some sender known.
+returns-then-self-clause-shuts g c = λ some sender known spare.
     (subst (λ ending. IsReady ending c.look.new.self.linked.recorded) (sym (ap (λ view. view.ending) c.self.view_is) ∙ c.if-self.true) c.look.ensures.ready).gates sender known
 
 pub returns-then-self-clause-taken : goal.returns-then-self-clause-taken

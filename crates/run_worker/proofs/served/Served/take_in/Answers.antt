@@ -26,7 +26,7 @@ returns-clause-hears g c =
 
 pub returns-clause-shuts : goal.returns-clause-shuts
 returns-clause-shuts g c =
-    shut_behind c.args.self.now.linked c.close_gates-shut.new.self.linked c.deliver_all-delivered.new.self.linked c.close_gates-shut.ensures.steps.stays c.deliver_all-delivered.ensures.steps.stays c.close_gates-shut.ensures.shuts
+    shut_behind c.args.spared c.args.self.now.linked c.close_gates-shut.new.self.linked c.deliver_all-delivered.new.self.linked c.close_gates-shut.ensures.steps.stays c.deliver_all-delivered.ensures.steps.stays c.close_gates-shut.ensures.shuts
 
 pub returns-clause-rung : goal.returns-clause-rung
 returns-clause-rung g c =

@@ -7,7 +7,7 @@ use Rattle.run_worker.proofs.worker.Worker.goes_on.Goals as goal
 
 pub invariant_of-self : goal.invariant_of-self
 invariant_of-self g c =
-    let steps = round_steps g.J.Task.meaning g.C.Clock.Reads g.G.Gate.Asked _ _ _ _ c.round-some.ensures.makes in (
+    let steps = round_steps g.J.Task.meaning g.J.Task.sleeps g.C.Clock.Reads g.G.Gate.Asked _ _ _ _ c.round-some.ensures.makes in (
       c.round-some.ensures.rung,
       bell_still _ _ _ _ c.self.inside.own steps.stays.seat.number c.round-some.ensures.names c.self.invariant.1,
       round_passes g.S.Sink.has g.S.Sink.refused c.self.inside.rounds.served c.self.inside.sink c.self.invariant.2 c.round-some.new.self.served
@@ -17,5 +17,5 @@ invariant_of-self g c =
 
 pub returns : goal.returns
 returns g c =
-    goes g.J.Task.meaning g.C.Clock.Reads g.G.Gate.Asked g.S.Sink c.args.self.now c.hand_on_if_low.new.self _ _ c.self.view_is c.round-some.result c.count_idle-again.result.0 c.hand_on_if_low.ensures.hands c.round-some.ensures.makes
+    goes g.J.Task.meaning g.J.Task.sleeps g.C.Clock.Reads g.G.Gate.Asked g.S.Sink c.args.self.now c.hand_on_if_low.new.self _ _ c.self.view_is c.round-some.result c.count_idle-again.result.0 c.hand_on_if_low.ensures.hands c.round-some.ensures.makes
     c.count_idle-again.ensures (record { tries = refl; bells = c.round-some.ensures.names; sink = refl; shown = refl; since = refl })

@@ -10,15 +10,15 @@ returns g c = (
     c.if-not-goes_on.self,
     elim c.if-not-goes_on.branch [
       | then-not-goes_on w ↦
-          subst (ServesOnce g.J.Task.meaning g.C.Clock.Reads g.G.Gate.Asked g.S.Sink c.show_again.new.self) (sym w.self-is)
+          subst (ServesOnce g.J.Task.meaning g.J.Task.sleeps g.C.Clock.Reads g.G.Gate.Asked g.S.Sink c.show_again.new.self) (sym w.self-is)
           (inr (
             c.goes_on.new.self,
-            subst (λ again. GoesOn g.J.Task.meaning g.C.Clock.Reads g.G.Gate.Asked g.S.Sink c.show_again.new.self again c.goes_on.new.self) w.if-not-goes_on.true c.goes_on.ensures,
+            subst (λ again. GoesOn g.J.Task.meaning g.J.Task.sleeps g.C.Clock.Reads g.G.Gate.Asked g.S.Sink c.show_again.new.self again c.goes_on.new.self) w.if-not-goes_on.true c.goes_on.ensures,
             (w.show.new.self, w.show.ensures, (w.rests.result, w.rests.ensures)),
           ))
       | else-not-goes_on w ↦
-          subst (ServesOnce g.J.Task.meaning g.C.Clock.Reads g.G.Gate.Asked g.S.Sink c.show_again.new.self) (sym w.self-is)
-          (inl (subst (λ again. GoesOn g.J.Task.meaning g.C.Clock.Reads g.G.Gate.Asked g.S.Sink c.show_again.new.self again c.goes_on.new.self) w.if-not-goes_on.false c.goes_on.ensures))
+          subst (ServesOnce g.J.Task.meaning g.J.Task.sleeps g.C.Clock.Reads g.G.Gate.Asked g.S.Sink c.show_again.new.self) (sym w.self-is)
+          (inl (subst (λ again. GoesOn g.J.Task.meaning g.J.Task.sleeps g.C.Clock.Reads g.G.Gate.Asked g.S.Sink c.show_again.new.self again c.goes_on.new.self) w.if-not-goes_on.false c.goes_on.ensures))
     ],
     subst (λ was. ShowsEnd was c.if-not-goes_on.self c.show_end.new.self) (c.is_ending-was.ensures ∙ ap (λ (worker : WorkerView _ _ _ _ _). worker.ending) c.self.view_is) c.show_end.ensures,
   ),
