@@ -12,6 +12,11 @@ use base_jobs::{Job, Post, Step, Task};
 pub trait Work: Drop {
     /// One step, which takes the core until it returns.
     fn step(&mut self) -> Step<u64>;
+
+    /// For how many nanoseconds it sleeps, if its last step parked it. None: until somebody wakes it.
+    fn sleeps(&self) -> Option<u64> {
+        None
+    }
 }
 
 /// A job that does such work, a step in each poll. A contract knows whether it has answered, and nothing else.
@@ -19,6 +24,8 @@ pub trait Work: Drop {
 pub struct Plain<W> {
     work: W,
     ended: bool,
+    /// What the work said behind its last step.
+    sleeps: Option<u64>,
 }
 
 impl<W: Work> Plain<W> {
@@ -26,7 +33,11 @@ impl<W: Work> Plain<W> {
     pub fn new(work: W) -> Self
         ensures open { result.ended ≡ false }
     {
-        Plain { work, ended: false }
+        Plain {
+            work,
+            ended: false,
+            sleeps: None,
+        }
     }
 }
 
@@ -39,6 +50,8 @@ impl<W: Work> Task for Plain<W> {
 
     ghost laws = { plain_laws (λ job. job.ended) };
 
+    ghost sleeps = { λ job. job.sleeps };
+
     fn is_done(&self) -> bool {
         self.ended
     }
@@ -46,12 +59,17 @@ impl<W: Work> Task for Plain<W> {
     fn told(&self) -> Option<u64> {
         None
     }
+
+    fn sleeps(&self) -> Option<u64> {
+        self.sleeps
+    }
 }
 
 impl<W: Work> Job for Plain<W> {
     fn poll<P: Post<Self, u64>>(&mut self, _post: &mut P) -> Step<u64> {
         let step = self.work.step();
         self.ended = matches!(step, Step::Done(_));
+        self.sleeps = self.work.sleeps();
         step
     }
 }

@@ -58,9 +58,13 @@ fn answer<R: Wait + Drop>(rt: &R, node: &mut Node<R>, ticket: Ticket) -> Result<
 /// Publishes the messages of a core, and keeps their tickets.
 fn publish<R: Drop>(node: &mut Node<R>, on: CoreNo, tickets: &mut Vec<Ticket>) -> Result<()> {
     for before in 0..MESSAGES {
-        let (message, kept) = (before + 1, None);
-        let ticket = submit(node, on, PUBLISH, BrokerJob::Publish { message, on, kept })?;
-        tickets.push(ticket)?;
+        let job = BrokerJob::Publish {
+            message: before + 1,
+            on,
+            kept: None,
+            wait: None,
+        };
+        tickets.push(submit(node, on, PUBLISH, job)?)?;
     }
     Ok(())
 }

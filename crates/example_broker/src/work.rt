@@ -1,6 +1,8 @@
 //! The jobs of a broker, as one type. A job that publishes is parked until another core has indexed its message and wakes it.
+//!
+//! A job that has to try again sleeps before, each time twice as long. One that waits for its wake sleeps too, in case the wake is lost.
 
-ghost use Rattle.std.specs.Prelude.{◌≡◌, true};
+ghost use Rattle.std.specs.Prelude.{◌≡◌, false, true};
 ghost use Rattle.duthlwyran.specs.Jobs.{Done, is_done_step};
 ghost use Rattle.example_broker.specs.Over.{is_over};
 
@@ -26,6 +28,11 @@ pub const FETCH: QueueNo = QueueNo(3);
 /// So many places are fetched.
 const COUNT: u64 = 100;
 
+/// How many nanoseconds a job sleeps before it tries again, its `wait`: a microsecond the first time, and a tenth of a second at most.
+const FIRST_WAIT: u64 = 1_000;
+
+const LONGEST_WAIT: u64 = 100_000_000;
+
 /// What is submitted to a core.
 #[derive(Drop)]
 pub enum BrokerJob {
@@ -35,11 +42,13 @@ pub enum BrokerJob {
         message: u32,
         on: CoreNo,
         kept: Option<Ticket>,
+        wait: Option<u64>,
     },
     /// Indexes a message of this core, and wakes the job that waits there. The answer is its place.
     Index {
         message: u32,
         on: CoreNo,
+        wait: Option<u64>,
     },
     /// Fetches the places of the first messages, one in each poll, and then gives them to whoever asked.
     Fetch {
@@ -76,6 +85,17 @@ impl BrokerJob {
     }
 }
 
+/// The job sleeps, and then tries again: each time it sleeps twice as long as before.
+fn try_later(wait: &mut Option<u64>) -> Step<u64>
+    ensures { is_done_step result ≡ false }
+{
+    *wait = Some(match *wait {
+        Some(last) => last.saturating_mul(2).min(LONGEST_WAIT),
+        None => FIRST_WAIT,
+    });
+    Step::Park
+}
+
 /// Adds the place of the next message, unless all are there. Whether it did.
 fn add_next(places: &mut Vec<u64>) -> bool {
     let before = places.len() as u64;
@@ -84,7 +104,7 @@ fn add_next(places: &mut Vec<u64>) -> bool {
 
 impl Task for BrokerJob {
     ghost use Rattle.duthlwyran.specs.Jobs.{plain_meaning, plain_laws};
-    ghost use Rattle.example_broker.specs.Over.{is_over};
+    ghost use Rattle.example_broker.specs.Over.{is_over, sleep_of};
 
     type Out = u64;
 
@@ -101,6 +121,17 @@ impl Task for BrokerJob {
     fn told(&self) -> Option<u64> {
         None
     }
+
+    ghost sleeps = { sleep_of };
+
+    fn sleeps(&self) -> Option<u64> {
+        match self {
+            // A safety net: another core wakes it, and if that wake is lost, it wakes by itself.
+            BrokerJob::Publish { wait, .. } => Some(wait.unwrap_or(LONGEST_WAIT)),
+            BrokerJob::Index { wait, .. } => *wait,
+            _ => None,
+        }
+    }
 }
 
 impl Job for BrokerJob {
@@ -112,29 +143,41 @@ impl Job for BrokerJob {
 impl Asks for BrokerJob {
     fn ask<P: Post<Self, u64>>(&mut self, begun: &Snapshot<P>, post: &mut P) -> Step<u64> {
         match self {
-            BrokerJob::Publish { message, on, kept } => {
+            BrokerJob::Publish {
+                message,
+                on,
+                kept,
+                wait,
+            } => {
                 let Some(ticket) = *kept else {
                     let (message, on) = (*message, *on);
                     let next = CoreNo((on.0 % CORES + 1) % CORES);
-                    let order = Order::Job(INDEX, BrokerJob::Index { message, on });
+                    let order = Order::Job(
+                        INDEX,
+                        BrokerJob::Index {
+                            message,
+                            on,
+                            wait: None,
+                        },
+                    );
                     *kept = submit_and_keep(begun, post, next, order).ok();
-                    return if kept.is_some() {
-                        Step::Park
-                    } else {
-                        Step::Yield
-                    };
+                    if kept.is_none() {
+                        return try_later(wait);
+                    }
+                    *wait = None;
+                    return Step::Park;
                 };
-                // The wake may come before the outcome is collected, and no second one comes: so it isn't parked again.
+                // The wake may come before the outcome is collected, and no second one comes. Or its time came before the wake.
                 match redeem_if_there(begun, post, ticket) {
-                    Redeemed::NotYet => Step::Yield,
+                    Redeemed::NotYet => try_later(wait),
                     Redeemed::There(Outcome::Finished(place)) => self.end(place),
                     _ => self.end(0),
                 }
             }
-            BrokerJob::Index { message, on } => {
+            BrokerJob::Index { message, on, wait } => {
                 let message = *message as u64;
                 match submit_and_detach(begun, post, *on, Order::Wake(CALLER, message)) {
-                    Err(SendError::Full(_)) => Step::Yield,
+                    Err(SendError::Full(_)) => try_later(wait),
                     _ => self.end(message * 2),
                 }
             }

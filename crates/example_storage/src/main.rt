@@ -4,10 +4,11 @@
 #![tactic(auto)]
 
 use duthlwyran::{
-    Assembly, CoreNo, House, Mode, Order, Parts, Queue, QueueNo, Result, SystemClock, Verdict,
-    audit, put_all_stats,
+    Assembly, CoreNo, House, Mode, Order, Parts, Queue, QueueNo, Result, SystemClock, Ticket,
+    Verdict, audit, put_all_stats,
 };
 use std::alloc::Global;
+use std::collections::BTreeSet;
 use std::process::ExitCode;
 use std::sync::Wait;
 use std::thread::Threads;
@@ -27,6 +28,11 @@ const READS: QueueNo = QueueNo(1);
 
 const COMPACTION: QueueNo = QueueNo(2);
 
+/// How long leases last, in nanoseconds. The short one runs out. The long one is given back, so the program never waits for its end.
+const MILLISECOND: u64 = 1_000_000;
+
+const HOUR: u64 = 3_600_000_000_000;
+
 /// Starts the cores, each with a table of its own. Reads weigh nine times as much as compaction, if both have work.
 fn start<R>(rt: R, alloc: Global) -> Result<Node<R>>
 where
@@ -36,8 +42,13 @@ where
     for core in 0..CORES {
         house.queue(CoreNo(core), "reads", 900)?;
         house.queue(CoreNo(core), "compaction", 100)?;
-        let (keys, reads) = (Vec::new(alloc), 0);
-        tables.push(Table { alloc, keys, reads })?;
+        let (keys, leased, reads) = (Vec::new(alloc), BTreeSet::new(alloc), 0);
+        tables.push(Table {
+            alloc,
+            keys,
+            leased,
+            reads,
+        })?;
     }
     let parts = Parts::of(rt, alloc, CORES)?.with_locals(tables);
     Ok(house.start_with(rt, parts)?)
@@ -69,7 +80,34 @@ fn commit<R: Wait + Drop>(rt: &R, node: &mut Node<R>, key: u32) -> Result<u64> {
     Ok(node.wait(rt, ticket)?)
 }
 
-/// A compaction on each core, reads beside it, and a commit.
+/// Leases a key of core 0 for so many nanoseconds.
+fn lease<R: Drop>(node: &mut Node<R>, key: u32, time: u64) -> Result<Ticket> {
+    let (core, queue, is_held) = (CoreNo(0), READS, false);
+    let job = StoreJob::Lease { key, time, is_held };
+    Ok(node.submit(Queue { core, queue }, job)?)
+}
+
+/// Gives a lease back: its key is taken out of the table of its core, and then its job is woken.
+fn give_back<R: Wait + Drop>(rt: &R, node: &mut Node<R>, key: u32, lease: Ticket) -> Result<()> {
+    let (core, queue) = (CoreNo(0), READS);
+    let given = node.submit(Queue { core, queue }, StoreJob::GiveBack { key })?;
+    node.wait(rt, given)?;
+    let name = lease.name();
+    let wake = Order::Wake(name.from, name.number);
+    let woken = node.runtime.submit(core, wake)?;
+    Ok(node.runtime.detach(woken)?)
+}
+
+/// Two leases: one runs out, and the other is given back before.
+fn lend<R: Wait + Drop + Print>(rt: &R, node: &mut Node<R>) -> Result<()> {
+    let short = lease(node, 1, MILLISECOND)?;
+    let long = lease(node, 2, HOUR)?;
+    give_back(rt, node, 2, long)?;
+    let (short, long) = (node.wait(rt, short)?, node.wait(rt, long)?);
+    Ok(println!(rt; "leases that ran out: {short} of a millisecond, {long} of an hour")?)
+}
+
+/// A compaction on each core, reads beside it, a commit, and leases.
 fn serve<R: Wait + Drop + Print>(rt: &R, node: &mut Node<R>) -> Result<()> {
     compact(node, CoreNo(0), 1000)?;
     compact(node, CoreNo(1), 1000)?;
@@ -78,7 +116,8 @@ fn serve<R: Wait + Drop + Print>(rt: &R, node: &mut Node<R>) -> Result<()> {
         sum = sum.saturating_add(read(rt, node, CoreNo(key as u8 % CORES), key)?);
     }
     let key = commit(rt, node, 7)?;
-    Ok(println!(rt; "read {sum}, committed {key}")?)
+    println!(rt; "read {sum}, committed {key}")?;
+    lend(rt, node)
 }
 
 /// Tells the statistics, and whether the journals are sound.

@@ -2,12 +2,14 @@
 
 use duthlwyran::{CoreNo, CoreState};
 use std::alloc::Global;
+use std::collections::BTreeSet;
 
-/// The keys that were committed on one core, and how often it was read.
+/// The keys that were committed on one core, those that are leased there, and how often it was read.
 #[derive(Drop)]
 pub struct Table {
     pub alloc: Global,
     pub keys: Vec<u32>,
+    pub leased: BTreeSet<u32>,
     pub reads: u64,
 }
 

@@ -1,4 +1,4 @@
-//! The jobs of this program, as one type: it needs no box, and its answers are exact.
+//! The jobs of this program, as one type: it needs no box, and a contract knows its answers.
 
 ghost use Rattle.std.specs.Prelude.{◌≡◌, false};
 
@@ -14,14 +14,19 @@ pub enum StoreJob {
     Compact { blocks: u32, left: u32 },
     /// In the foreground: a key is written into the table of its core, and the job parks until it is woken, since another core has the key too.
     Commit { key: u32, is_written: bool },
+    /// In the foreground: a key is leased for so many nanoseconds. The answer is 1 if the lease ran out, and 0 if it was given back.
+    Lease { key: u32, time: u64, is_held: bool },
+    /// In the foreground: a lease is given back. The answer is 1 if it hadn't run out.
+    GiveBack { key: u32 },
     /// It has answered.
     Ended,
 }
 
-// What the work answers stands in specs/Answers.antt. The rest of this block is the same for each such enum that submits nothing itself.
+// What the work answers and how long it sleeps stand in specs/Answers.antt. The rest of this block, except `sleeps`, is the same for each
+// such enum that submits nothing itself.
 impl Task for StoreJob {
     ghost use Rattle.duthlwyran.specs.Jobs.{answering_meaning, answering_laws};
-    ghost use Rattle.example_storage.specs.Answers.{MayAnswer, is_ended};
+    ghost use Rattle.example_storage.specs.Answers.{MayAnswer, is_ended, sleep_of};
 
     type Out = u64;
 
@@ -31,12 +36,21 @@ impl Task for StoreJob {
 
     ghost laws = { answering_laws is_ended MayAnswer };
 
+    ghost sleeps = { sleep_of };
+
     fn is_done(&self) -> bool {
         matches!(self, StoreJob::Ended)
     }
 
     fn told(&self) -> Option<u64> {
         None
+    }
+
+    fn sleeps(&self) -> Option<u64> {
+        match self {
+            StoreJob::Lease { time, .. } => Some(*time),
+            _ => None,
+        }
     }
 }
 
@@ -62,6 +76,16 @@ impl Job for StoreJob {
                 }
                 *key as u64
             }
+            StoreJob::Lease { key, is_held, .. } => {
+                let leased = &mut post.local().leased;
+                if !*is_held {
+                    *is_held = matches!(leased.insert(*key), Ok(true));
+                    return if *is_held { Step::Park } else { Step::Yield };
+                }
+                // It was woken, or its time came. If the key is still here, nobody gave it back.
+                leased.remove(&*key) as u64
+            }
+            StoreJob::GiveBack { key } => post.local().leased.remove(&*key) as u64,
             StoreJob::Ended => return Step::Yield,
         };
         *self = StoreJob::Ended;
