@@ -13,6 +13,7 @@ mod LooksRefused
 mod PollsRefused
 mod QueuesRefused
 mod ActsRefused
+mod SleepsRefused
 mod ParksRest
 mod WatchesRefused
 pub mod Noted
