@@ -21,7 +21,7 @@ abbrev pub round_view : {J T C G : Type 0} → ServedView J T → Timers → Wat
 round_view served timers watch gate turns = record { served = served; timers = timers; watch = watch; gate = gate; turns = turns }
 
 module _ {J T C G : Type 0} (reads : C → ℕ → C → Type 0) where
-  -- Where a timer is set the clock is read, and the jobs whose timers are due are woken, unless the worker comes to its end. Where none is set nothing is done.
+  -- If a timer is set the clock is read, and the jobs whose timers are due are woken, unless the worker comes to its end. If none is set nothing is done.
   pub record WakesDue (old : RoundView J T C G) (some : Bool) (new : RoundView J T C G) : Type 0 where
     pub steps : StepsServed (woken_most old.served) old.served some new.served
     pub none : NotesNoPoll old.served.linked.recorded.journal.notes new.served.linked.recorded.journal.notes
