@@ -19,6 +19,7 @@
  * Each function but fx_version and fx_text answers an fx_code. Where more than one code could be answered, the one that its comment
  * names first is. A call that answers FX_IDLE or a code above it, except FX_PARKED, changes nothing but the count for FX_SPENT, and writes
  * nothing to what its pointers point to, except the wanted count behind FX_SHORT. fx_seat_step is two calls, and the first may be done then.
+ * Behind FX_ABSENT of fx_wake_due and fx_seat_wake_due a timer is gone.
  *
  * Null: a call with a null among its pointers is answered FX_NULL before any other code, and the library isn't called. fairexec_null.h, which
  * stands beside this header, tests each pointer that the compiler doesn't know not to be null. A host that defines FX_NO_NULL_CHECKS before it
@@ -28,10 +29,10 @@
  * start or the join of a thread, or a sequentially consistent atomic. Calls on different handles need no order, those on the seats of one
  * house neither. No call blocks, calls the host back, or knows a clock. No call may be made from a signal handler.
  *
- * Memory: of the calls on one core fx_open and fx_create alone ask for memory, by malloc, and fx_free gives it back, by free. Of those on a
- * house fx_house_open, fx_house_take, fx_house_audit and fx_house_text do, fx_seat_deliver where an order makes a queue, and fx_seat_pass_on,
- * fx_seat_copy and fx_seat_copy_bytes, which give it back before they answer; fx_house_end, fx_house_free and fx_seat_free give back what the others took. The library is
- * for x86-64-v2.
+ * Memory: of the calls on one core fx_open and fx_create alone ask for memory, by malloc, and fx_free gives it back, by free. Of those on
+ * timers fx_timers_open does, and fx_timers_free gives it back. Of those on a house fx_house_open, fx_house_take, fx_house_audit and
+ * fx_house_text do, fx_seat_deliver where an order makes a queue, and fx_seat_pass_on, fx_seat_copy and fx_seat_copy_bytes, which give it back
+ * before they answer; fx_house_end, fx_house_free and fx_seat_free give back what the others took. The library is for x86-64-v2.
  *
  * What no call can test is the host's duty, beside the threads' order above:
  * - Each pointer points to a value of its type, or to as many bytes as `room` tells. Two pointers of one call don't overlap.
@@ -78,22 +79,24 @@ enum fx_code {
     FX_RESUME = 2,      /* fx_next: run the job again */
     FX_DONE = 3,        /* fx_settle: the job is done, and the library forgot it */
     FX_BACK = 4,        /* fx_next: the job goes back to the host, unrun or unfinished, since its queue or its core hands back */
-    FX_IDLE = 5,        /* fx_next: no queue has work. fx_seat_deliver, fx_seat_shows: no link shows anything */
+    FX_IDLE = 5,        /* fx_next: no queue has work. fx_seat_deliver, fx_seat_shows: no link shows anything. Of timers: none is set, or due */
     FX_SPENT = 6,       /* the core made 2^64 - 1 turns, or was handed 2^64 - 1 jobs, new shares and wakes: it takes no more of that.
                            Of a link: 2^63 - 1 orders were accepted */
     FX_BUSY = 7,        /* the host runs a job of this core, and settles it first */
     FX_NO_JOB = 8,      /* the host runs no job of this core */
-    FX_FULL = 9,        /* the core holds as many jobs as it has room for. Of a link: as many submissions are outstanding as it has places */
+    FX_FULL = 9,        /* the core holds as many jobs as it has room for. Of a link: as many submissions are outstanding as it has places. Of timers:
+                           each is set for another job */
     FX_NO_MEMORY = 10,  /* there is no memory */
     FX_BAD_SHARES = 11, /* shares are 1 to 10000 */
-    FX_EMPTY = 12,      /* the handle has no core. Of a house: it has not what the call is for */
+    FX_EMPTY = 12,      /* the handle has no core, or no timers. Of a house: it has not what the call is for */
     FX_NO_QUEUE = 13,   /* the core has no queue of that number */
     FX_CLOSED = 14,     /* the queue or the core is closed, or was closed before. Of a link: its gate is shut */
     FX_TOO_MANY = 15,   /* the core has 256 queues */
     FX_BAD_NUMBER = 16, /* jobs, a step, a mode, a number of a config or a size field is out of its range */
-    FX_OCCUPIED = 17,   /* the handle has a core already */
+    FX_OCCUPIED = 17,   /* the handle has a core or timers already */
     FX_PARKED = 18,     /* fx_settle: the job is parked, and runs again after fx_wake alone */
-    FX_ABSENT = 19,     /* fx_wake: no job of that number is inside. fx_house_take: all seats were taken. fx_seat_came: nothing came there */
+    FX_ABSENT = 19,     /* fx_wake: no job of that number is inside. fx_wake_due: the job of the timer isn't parked any more. fx_house_take: all seats
+                           were taken. fx_seat_came: nothing came there */
     FX_JOURNAL_FULL = 20, /* the journal has too few notes free for the call */
     FX_UNKNOWN_CORE = 21, /* the house has no core of that number */
     FX_NO_ACTOR = 22,     /* the house has no actor of that number, or the turn of another one has come */
@@ -557,6 +560,78 @@ uint32_t fx_seat_shows(fx_seat *seat) FX_NOT_NULL;
  */
 uint32_t fx_seat_stats(fx_seat *seat, fx_core_stats *stats) FX_NOT_NULL;
 uint32_t fx_seat_stats_of_queue(fx_seat *seat, uint32_t queue, fx_queue_stats *stats) FX_NOT_NULL;
+
+/* --- Timers --- */
+
+/*
+ * The timers of the jobs of one core, alone or of a house: jobs that park until a time. They are a handle as fx_core is:
+ * fx_timers timers = FX_NO_TIMERS; A host opens them for each core whose jobs sleep, and uses them with that core alone.
+ *
+ *     do code = fx_wake_due(&core, &timers, clock()); while (code == FX_OK || code == FX_ABSENT);
+ *     if (fx_next(&core, &job) != FX_IDLE)
+ *         fx_settle_until(&core, &timers, FX_STEP_PARK, nanoseconds, clock() + 1000000);
+ *     else if (fx_next_time(&timers, &time) == FX_OK)
+ *         sleep_until(time);
+ *
+ * Times are numbers of the host's clock, in any unit: no call knows a clock. A job has one timer at most. It goes when its time comes, or when a run
+ * of its job is settled by fx_settle_until or fx_seat_settle_until. That of a job that goes back stays until its time.
+ */
+typedef struct fx_timers {
+    void *at;
+} fx_timers;
+
+#define FX_NO_TIMERS FX_NO_CORE
+
+/* The time that says no time: the job is parked until it is woken. */
+#define FX_NEVER UINT64_MAX
+
+/*
+ * Opens timers for `jobs` jobs of a core, 1 to 131070: as many as it may hold, and more where queues close by FX_MODE_RETURN while others go on. The
+ * core of a house holds at most as many as it has actors, times the places of a link. The handle has to be empty. This call alone asks for memory,
+ * some 80 bytes a job.
+ * FX_OCCUPIED; FX_BAD_NUMBER: jobs; FX_NO_MEMORY; FX_OK.
+ */
+uint32_t fx_timers_open(fx_timers *timers, uint32_t jobs) FX_NOT_NULL;
+
+/*
+ * Frees timers. The jobs stay parked until they are woken otherwise.
+ * FX_EMPTY; FX_OK.
+ */
+uint32_t fx_timers_free(fx_timers *timers) FX_NOT_NULL;
+
+/*
+ * Writes when the next timer is due: until then a host that has nothing else to do may sleep.
+ * FX_EMPTY; FX_IDLE: no timer is set; FX_OK.
+ */
+uint32_t fx_next_time(fx_timers *timers, uint64_t *time) FX_NOT_NULL;
+
+/*
+ * Settles the run of the job that was told, as fx_settle and fx_seat_settle. If it parks, fx_wake_due wakes it once this time has come, unless it
+ * is woken before; FX_NEVER sets no timer. A host settles by this call each run of a job that may sleep, whatever the step: the timer of a job that
+ * was woken before its time is gone then.
+ * FX_EMPTY: the core, then the timers; FX_BAD_NUMBER: step; FX_NO_JOB; FX_FULL: each timer is set for another job, and the run isn't settled; then
+ * as fx_settle.
+ */
+uint32_t fx_settle_until(fx_core *core, fx_timers *timers, uint32_t step, uint64_t spent, uint64_t time) FX_NOT_NULL;
+uint32_t fx_seat_settle_until(fx_seat *seat, fx_timers *timers, uint32_t step, uint64_t answer, uint64_t spent, uint64_t time) FX_NOT_NULL;
+
+/*
+ * Looks at the timer that is due next. If its time has come by `now`, its job is woken, and the timer is gone. The host calls it as long as it
+ * answers FX_OK or FX_ABSENT. No job is woken before its time, and none twice for one timer. A core that is full takes no wake: a host whose jobs
+ * sleep leaves a place free.
+ * FX_EMPTY: the core, then the timers; FX_IDLE: no timer is due; FX_ABSENT: the job isn't parked any more, and its timer is gone; FX_FULL and
+ * FX_SPENT, as fx_wake, and the timer stays; FX_OK.
+ */
+uint32_t fx_wake_due(fx_core *core, fx_timers *timers, uint64_t now) FX_NOT_NULL;
+
+/*
+ * The same of a seat: the core submits the wake to itself, by two notes, and lets go of its outcome. The wake is delivered as any order, by
+ * fx_seat_deliver, and has a place of the link until its outcome was collected. A job that is woken otherwise meanwhile, and sleeps anew, gets it
+ * early: it looks again. A closed core shuts its own gate only once no job of it sleeps.
+ * FX_EMPTY: no core, then the timers; FX_IDLE; FX_ABSENT; FX_JOURNAL_FULL: fewer than 2 notes are free; FX_CLOSED: the core shut its own gate;
+ * FX_FULL: its link to itself takes nothing more; FX_OK.
+ */
+uint32_t fx_seat_wake_due(fx_seat *seat, fx_timers *timers, uint64_t now) FX_NOT_NULL;
 
 /* A code in words. */
 static inline const char *fx_text(uint32_t code) {

@@ -277,4 +277,46 @@ static inline uint32_t fx_checked_seat_stats_of_queue(fx_seat *seat, uint32_t qu
 }
 #define fx_seat_stats_of_queue fx_checked_seat_stats_of_queue
 
+static inline uint32_t fx_checked_timers_open(fx_timers *timers, uint32_t jobs) {
+    if (!timers) return FX_NULL;
+    return fx_timers_open(timers, jobs);
+}
+#define fx_timers_open fx_checked_timers_open
+
+static inline uint32_t fx_checked_timers_free(fx_timers *timers) {
+    if (!timers) return FX_NULL;
+    return fx_timers_free(timers);
+}
+#define fx_timers_free fx_checked_timers_free
+
+static inline uint32_t fx_checked_next_time(fx_timers *timers, uint64_t *time) {
+    if (!timers || !time) return FX_NULL;
+    return fx_next_time(timers, time);
+}
+#define fx_next_time fx_checked_next_time
+
+static inline uint32_t fx_checked_settle_until(fx_core *core, fx_timers *timers, uint32_t step, uint64_t spent, uint64_t time) {
+    if (!core || !timers) return FX_NULL;
+    return fx_settle_until(core, timers, step, spent, time);
+}
+#define fx_settle_until fx_checked_settle_until
+
+static inline uint32_t fx_checked_seat_settle_until(fx_seat *seat, fx_timers *timers, uint32_t step, uint64_t answer, uint64_t spent, uint64_t time) {
+    if (!seat || !timers) return FX_NULL;
+    return fx_seat_settle_until(seat, timers, step, answer, spent, time);
+}
+#define fx_seat_settle_until fx_checked_seat_settle_until
+
+static inline uint32_t fx_checked_wake_due(fx_core *core, fx_timers *timers, uint64_t now) {
+    if (!core || !timers) return FX_NULL;
+    return fx_wake_due(core, timers, now);
+}
+#define fx_wake_due fx_checked_wake_due
+
+static inline uint32_t fx_checked_seat_wake_due(fx_seat *seat, fx_timers *timers, uint64_t now) {
+    if (!seat || !timers) return FX_NULL;
+    return fx_seat_wake_due(seat, timers, now);
+}
+#define fx_seat_wake_due fx_checked_seat_wake_due
+
 #endif

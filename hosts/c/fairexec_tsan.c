@@ -3,7 +3,7 @@
  * other. What is submitted comes before its delivery, and what a run left before the collecting of its outcome. All links count as one here, so a
  * race that another link hides isn't found. A host that is compiled with -fsanitize=thread links this file beside it, in C or C++, with
  *
- *     -Wl,--wrap=fx_seat_submit,--wrap=fx_seat_deliver,--wrap=fx_seat_settle,--wrap=fx_seat_step,--wrap=fx_seat_collect
+ *     -Wl,--wrap=fx_seat_submit,--wrap=fx_seat_deliver,--wrap=fx_seat_settle,--wrap=fx_seat_settle_until,--wrap=fx_seat_step,--wrap=fx_seat_collect
  */
 #include "fairexec.h"
 
@@ -22,6 +22,8 @@ uint32_t __real_fx_seat_deliver(fx_seat *seat, uint32_t sender);
 uint32_t __wrap_fx_seat_deliver(fx_seat *seat, uint32_t sender);
 uint32_t __real_fx_seat_settle(fx_seat *seat, uint32_t step, uint64_t answer, uint64_t spent);
 uint32_t __wrap_fx_seat_settle(fx_seat *seat, uint32_t step, uint64_t answer, uint64_t spent);
+uint32_t __real_fx_seat_settle_until(fx_seat *seat, fx_timers *timers, uint32_t step, uint64_t answer, uint64_t spent, uint64_t time);
+uint32_t __wrap_fx_seat_settle_until(fx_seat *seat, fx_timers *timers, uint32_t step, uint64_t answer, uint64_t spent, uint64_t time);
 uint32_t __real_fx_seat_step(fx_seat *seat, uint32_t step, uint64_t answer, uint64_t spent, fx_turn *turn);
 uint32_t __wrap_fx_seat_step(fx_seat *seat, uint32_t step, uint64_t answer, uint64_t spent, fx_turn *turn);
 uint32_t __real_fx_seat_collect(fx_seat *seat, uint32_t core, uint64_t *count);
@@ -41,6 +43,11 @@ uint32_t __wrap_fx_seat_deliver(fx_seat *seat, uint32_t sender) {
 uint32_t __wrap_fx_seat_settle(fx_seat *seat, uint32_t step, uint64_t answer, uint64_t spent) {
     __tsan_release(&outcomes);
     return __real_fx_seat_settle(seat, step, answer, spent);
+}
+
+uint32_t __wrap_fx_seat_settle_until(fx_seat *seat, fx_timers *timers, uint32_t step, uint64_t answer, uint64_t spent, uint64_t time) {
+    __tsan_release(&outcomes);
+    return __real_fx_seat_settle_until(seat, timers, step, answer, spent, time);
 }
 
 uint32_t __wrap_fx_seat_step(fx_seat *seat, uint32_t step, uint64_t answer, uint64_t spent, fx_turn *turn) {

@@ -16,6 +16,7 @@ use Rattle.core_core.specs.Deliveries.{Delivers, Enters, Creates, Weighs, counte
 use Rattle.core_core.specs.declared.delivery.Delivered.{Delivered}
 use Rattle.core_core.specs.declared.delivery.Delivered.TheVariants.{Took, Back, Answered}
 use Rattle.host_core.specs.declared.job.HostJob.{HostJob}
+use Rattle.host_core.specs.declared.turns.Run.{Run}
 use Rattle.fairexec_c.specs.Hosting.{IsHosted}
 use Rattle.fairexec_c.proofs.Kept.{KeepsHost, kept, keeps_same, keeps_then, keeps_ends, keeps_wakes}
 
@@ -74,7 +75,7 @@ module _ (old : CoreView HostJob) (name : JobId) (new : CoreView HostJob) where
   keeps_delivery order delivered written is = absurd is
 
 -- the host has handed in one order more
-pub hosted_then : {old new : CoreView HostJob} {sent room : ℕ} {run : Option HostJob} → IsHosted old sent room run
+pub hosted_then : {old new : CoreView HostJob} {sent room : ℕ} {run : Option Run} → IsHosted old sent room run
     → KeepsHost (record old { delivered = slice_set old.delivered 1 (sent + 1) }) new → IsHosted new (sent + 1) room run
 hosted_then {old} {new} {sent} {room} {run} hosted keeps = record {
   cores = keeps.cores ∙ hosted.cores;

@@ -5,14 +5,15 @@ use Rattle.core_core.specs.State.{CoreView, JobOut}
 use Rattle.core_core.specs.Closing.{EndsParksIf}
 use Rattle.core_core.specs.Waking.{KeepsOutWake, KeepsLineWake, EndsPark, WakesJob, Wakes}
 use Rattle.host_core.specs.declared.job.HostJob.{HostJob}
-use Rattle.fairexec_c.specs.Hosting.{IsRunOf}
+use Rattle.host_core.specs.Hosted.{IsRunOf}
+use Rattle.host_core.specs.declared.turns.Run.{Run}
 
 pub record KeepsHost (old new : CoreView HostJob) : Type 0 where
   pub cores : new.cores ≡ old.cores
   pub delivered : new.delivered ≡ old.delivered
   pub room : new.queues.room ≡ old.queues.room
   pub bursts : new.bursts ≡ old.bursts
-  pub run : (run : Option HostJob) → IsRunOf old.out run → IsRunOf new.out run
+  pub run : (run : Option Run) → IsRunOf old.out run → IsRunOf new.out run
 
 pub kept : {old new : CoreView HostJob} → new.cores ≡ old.cores → new.delivered ≡ old.delivered → new.queues.room ≡ old.queues.room → new.out ≡ old.out → new.bursts ≡ old.bursts → KeepsHost old new
 kept cores delivered room out bursts =
@@ -42,7 +43,7 @@ keeps_ends old new ends true done =
 keeps_ends old new ends false same = keeps_same same
 
 -- a job that is out stays so, whatever its mark
-run_marked : (job : JobOut HostJob) (woken : Bool) (run : Option HostJob) → IsRunOf (Some job) run → IsRunOf (Some (record job { woken = woken })) run
+run_marked : (job : JobOut HostJob) (woken : Bool) (run : Option Run) → IsRunOf (Some job) run → IsRunOf (Some (record job { woken = woken })) run
 run_marked job woken None is = absurd is
 run_marked job woken (Some it) is = is
 

@@ -6,22 +6,17 @@ use Rattle.base_words.specs.declared.order.Order.{Order}
 use Rattle.base_words.specs.declared.order.Reason.TheVariants as why
 use Rattle.base_words.specs.Limits.{most_queues}
 use Rattle.core_core.specs.declared.delivery.Delivered.{Delivered}
-use Rattle.core_core.specs.State.{CoreView, JobOut, delivered_of, inside_count}
+use Rattle.core_core.specs.State.{CoreView, delivered_of, inside_count}
 use Rattle.core_core.specs.Deliveries.{Delivers, Enters, CountsAlone}
 use Rattle.core_core.specs.Closing.{refusal}
 use Rattle.host_calls.specs.declared.code.Code.{Code}
 use Rattle.host_calls.specs.declared.code.Code.TheVariants as code
 use Rattle.host_core.specs.declared.job.HostJob.{HostJob}
-
--- the job that the host runs is the one that is out, and it isn't done
-abbrev pub IsRunOf : Option (JobOut HostJob) → Option HostJob → Type 0
-IsRunOf None None = Unit {0}
-IsRunOf (Some out) (Some job) = (job ≡ out.job) × (job.ended ≡ false)
-IsRunOf None (Some job) = ⊥
-IsRunOf (Some out) None = ⊥
+use Rattle.host_core.specs.declared.turns.Run.{Run}
+use Rattle.host_core.specs.Hosted.{IsRunOf}
 
 -- the host is the only sender, each order that it handed in was delivered, and each run is a turn of its own
-pub record IsHosted (core : CoreView HostJob) (sent room : ℕ) (run : Option HostJob) : Type 0 where
+pub record IsHosted (core : CoreView HostJob) (sent room : ℕ) (run : Option Run) : Type 0 where
   pub cores : core.cores ≡ 1
   pub delivered : core.delivered ≡ 0 ∷ sent ∷ []
   pub roomy : core.queues.room ≡ room

@@ -7,6 +7,7 @@ pub mod Hosting
 pub mod Queueing
 pub mod Running
 pub mod Seats
+pub mod Sleeping
 pub mod Waking
 pub mod BadSeats
 pub mod BadBoards

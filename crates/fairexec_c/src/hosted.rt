@@ -6,6 +6,7 @@ ghost use Rattle.base_words.specs.Work.{number_if};
 ghost use Rattle.base_jobs.specs.Ready.{HasReadyJob};
 ghost use Rattle.fairexec_c.specs.Hosting.{HandsIn};
 ghost use Rattle.host_core.specs.Jobs.{host_meaning};
+ghost use Rattle.host_core.specs.Waking.{name_out};
 ghost use Rattle.fairexec_c.specs.Opening.{OpensCore, half_room};
 ghost use Rattle.host_calls.specs.declared.code.Code.TheVariants as code;
 ghost use Rattle.fairexec_c.specs.Running.{Nexts, SettlesStep, step_of};
@@ -14,8 +15,8 @@ use base_jobs::Step;
 use base_words::{ActorNo, CoreNo, Envelope, JobId, Order};
 use core_core::{Core, Delivered, PickError, Settled, Turn};
 use host_calls::Code;
-use host_core::HostJob;
 use host_core::word::poll_told;
+use host_core::{HostJob, Run};
 use std::alloc::{AllocError, Global};
 use std::marker::Model;
 
@@ -28,7 +29,7 @@ pub struct Hosted {
     pub core: Core<HostJob>,
     pub sent: u64,
     pub room: u64,
-    run: Option<HostJob>,
+    run: Option<Run>,
 }
 
 impl Model for Hosted {
@@ -73,6 +74,16 @@ impl Hosted {
         delivered
     }
 
+    /// The name of the job that the host runs, if it runs one.
+    pub(crate) fn name_out(&self) -> Option<JobId>
+        ensures { result ≡ name_out self.now.out }
+    {
+        match &self.run {
+            Some(run) => Some(run.name),
+            None => None,
+        }
+    }
+
     /// 1 while the host runs a job of this core, else 0.
     pub(crate) fn running(&self) -> u32
         ensures { result ≡ number_if (is_some self.now.out) }
@@ -89,14 +100,14 @@ impl Hosted {
     {
         let (picked, _notes) = self.core.pick();
         match picked {
-            Ok(Turn::Start(_, _, next)) => {
+            Ok(Turn::Start(name, _, next)) => {
                 *job = next.handle;
-                self.run = Some(next);
+                self.run = Some(Run { name, job: next });
                 Code::Start
             }
-            Ok(Turn::Resume(_, _, next)) => {
+            Ok(Turn::Resume(name, _, next)) => {
                 *job = next.handle;
-                self.run = Some(next);
+                self.run = Some(Run { name, job: next });
                 Code::Resume
             }
             Ok(Turn::Back(_, _, Order::Job(_, back))) => {
@@ -117,10 +128,10 @@ impl Hosted {
         let Some(step) = step_numbered(step) else {
             return Code::BadNumber;
         };
-        let Some(job) = self.run.take() else {
+        let Some(run) = self.run.take() else {
             return Code::NoJob;
         };
-        let (settled, _notes) = self.core.settle(poll_told(job, step), spent);
+        let (settled, _notes) = self.core.settle(poll_told(run.job, step), spent);
         match settled {
             Settled::Yielded => Code::Ok,
             Settled::Parked => Code::Parked,
@@ -160,7 +171,7 @@ fn half(jobs: u32) -> u16
 }
 
 /// The step of this number. A job that is done answers 0, since nobody reads its answer.
-fn step_numbered(number: u32) -> Option<Step<u64>>
+pub(crate) fn step_numbered(number: u32) -> Option<Step<u64>>
     ensures { result ≡ step_of number }
 {
     match number {

@@ -168,7 +168,7 @@ pub extern "C" fn fx_seat_free(alloc: Global, seat: &mut SeatHandle) -> u32
 }
 
 /// Frees what a handle holds.
-fn free(alloc: Global, seat: &mut SeatHandle) -> u32
+pub(crate) fn free(alloc: Global, seat: &mut SeatHandle) -> u32
     ensures { Frees seat.old.value result seat.new.value }
 {
     match take(alloc, seat) {

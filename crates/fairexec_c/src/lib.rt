@@ -21,6 +21,8 @@ pub mod orders;
 pub mod seat;
 pub mod seats;
 pub mod sends;
+mod sleeping;
+pub mod timers;
 
 use crate::handle::{Handle, put, take};
 use crate::hosted::open_for;

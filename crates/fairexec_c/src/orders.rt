@@ -1,9 +1,10 @@
 //! What the host asks of its core: jobs that enter and are woken, queues, shares, and closing.
 
+ghost use Rattle.base_words.specs.Commands.{job_at};
 ghost use Rattle.fairexec_c.specs.Hosting.{Submits};
 ghost use Rattle.fairexec_c.specs.Queueing.{MakesQueue, Reweighs, ClosesLine, ClosesAll};
 ghost use Rattle.host_calls.specs.Orders.{mode_of_number};
-ghost use Rattle.fairexec_c.specs.Waking.{TellsNumber, WakesNumber};
+ghost use Rattle.fairexec_c.specs.Waking.{TellsNumber, WakesInside, WakesNumber};
 
 use crate::hosted::Hosted;
 use base_words::{ActorNo, Answer, Order, QueueNo, Reason, Shares};
@@ -56,13 +57,20 @@ impl Hosted {
     pub fn wake(&mut self, number: u64) -> Code
         ensures { WakesNumber self.old number result self.new }
     {
+        self.wake_from(ActorNo(1), number)
+    }
+
+    /// Wakes the job of this sender and number.
+    pub(crate) fn wake_from(&mut self, from: ActorNo, number: u64) -> Code
+        ensures { WakesInside (job_at self.old.core from number) self.old result self.new }
+    {
         if !self.core.has_room() {
             return Code::Full;
         }
         if self.sent == u64::MAX {
             return Code::Spent;
         }
-        match self.hand_in(Order::Wake(ActorNo(1), number)) {
+        match self.hand_in(Order::Wake(from, number)) {
             Delivered::Answered(Answer::Woken) => Code::Ok,
             Delivered::Answered(Answer::NoJob) => Code::Absent,
             _ => unreachable!(),

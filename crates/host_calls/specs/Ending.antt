@@ -17,6 +17,7 @@ HasEndedSeat (member.House view) = ⊥
 HasEndedSeat (member.Core view) = HasEnded view
 HasEndedSeat (member.Outside view) = Unit {0}
 HasEndedSeat (member.Ended view) = ⊥
+HasEndedSeat (member.Sleepers timers) = ⊥
 
 -- the number of a seat is the next whose journal the house waits for
 abbrev pub IsNext : KeptView → Member → Type 0
@@ -24,6 +25,7 @@ IsNext house (member.House view) = ⊥
 IsNext house (member.Core view) = view.recorded.core.core ≡ length house.journals
 IsNext house (member.Outside view) = house.cores ≡ length house.journals
 IsNext house (member.Ended view) = ⊥
+IsNext house (member.Sleepers timers) = ⊥
 
 -- whether a seat may hand its journal in now, or the first reason why not
 abbrev pub Awaits : KeptView → Member → Code → Type 0
@@ -43,6 +45,7 @@ IsJournalOf (member.House view) journal = ⊥
 IsJournalOf (member.Core view) journal = IsKept view.recorded.journal journal
 IsJournalOf (member.Outside view) journal = IsKept view.desk.journal journal
 IsJournalOf (member.Ended view) journal = ⊥
+IsJournalOf (member.Sleepers timers) journal = ⊥
 
 -- notes of it were passed on
 abbrev pub HasPassed : Member → Type 0
@@ -50,6 +53,7 @@ HasPassed (member.House view) = ⊥
 HasPassed (member.Core view) = view.recorded.journal.passed ≢ []
 HasPassed (member.Outside view) = view.desk.journal.passed ≢ []
 HasPassed (member.Ended view) = ⊥
+HasPassed (member.Sleepers timers) = ⊥
 
 -- it is handed in behind the others, and it is known whether notes of any of them were passed on
 abbrev pub TakesIn : KeptView → Member → KeptView → Type 0
@@ -71,6 +75,7 @@ Becomes house (member.House new) = (new ≡ house) × (length house.journals ≢
 Becomes house (member.Core new) = ⊥
 Becomes house (member.Outside new) = ⊥
 Becomes house (member.Ended new) = IsWhole house new
+Becomes house (member.Sleepers timers) = ⊥
 
 -- a seat ends, and hands its journal to the house
 abbrev pub EndsSeat : Member → Member → Member → Type 0
@@ -78,6 +83,7 @@ EndsSeat (member.House old) seat new = Awaits old seat code.Ok × ((between : Ke
 EndsSeat (member.Core old) seat new = ⊥
 EndsSeat (member.Outside old) seat new = ⊥
 EndsSeat (member.Ended old) seat new = ⊥
+EndsSeat (member.Sleepers old) seat new = ⊥
 
 -- a seat may not end, for this reason; or it might, and there is no memory
 abbrev pub EndsNoSeat : Member → Member → Code → Type 0
@@ -85,3 +91,4 @@ EndsNoSeat (member.House old) seat told = ((told ≡ code.NoMemory) × Awaits ol
 EndsNoSeat (member.Core old) seat told = told ≡ code.Empty
 EndsNoSeat (member.Outside old) seat told = told ≡ code.Empty
 EndsNoSeat (member.Ended old) seat told = told ≡ code.Empty
+EndsNoSeat (member.Sleepers old) seat told = told ≡ code.Empty

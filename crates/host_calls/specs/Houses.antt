@@ -38,6 +38,7 @@ core_in (member.House view) = None
 core_in (member.Core view) = Some view
 core_in (member.Outside view) = None
 core_in (member.Ended view) = None
+core_in (member.Sleepers timers) = None
 
 -- the outside actor that it is, if it is one
 abbrev pub outside_in : Member → Option CallerView
@@ -45,6 +46,7 @@ outside_in (member.House view) = None
 outside_in (member.Core view) = None
 outside_in (member.Outside view) = Some view
 outside_in (member.Ended view) = None
+outside_in (member.Sleepers timers) = None
 
 -- the last core goes out, with its number
 abbrev pub TakesCore : KeptView → Member → ℕ → KeptView → Type 0
@@ -52,6 +54,7 @@ TakesCore old (member.Core view) number new = (old.left ≡ new.left ++ view ∷
 TakesCore old (member.House view) number new = ⊥
 TakesCore old (member.Outside view) number new = ⊥
 TakesCore old (member.Ended view) number new = ⊥
+TakesCore old (member.Sleepers timers) number new = ⊥
 
 -- none goes out: none is left, or there is no memory for one that is
 abbrev pub TakesNoCore : KeptView → Code → KeptView → Type 0
@@ -65,6 +68,7 @@ TakesOut old (member.Outside view) number new = (old.outside ≡ Some view) × (
 TakesOut old (member.Core view) number new = (old.outside ≡ None) × TakesCore old (member.Core view) number new
 TakesOut old (member.House view) number new = ⊥
 TakesOut old (member.Ended view) number new = ⊥
+TakesOut old (member.Sleepers timers) number new = ⊥
 
 -- none goes out: all are taken, or there is no memory for one that is left
 abbrev pub TakesNone : KeptView → Code → KeptView → Type 0

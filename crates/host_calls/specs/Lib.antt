@@ -1,5 +1,6 @@
 pub mod Bad
 pub mod BadNotes
+pub mod BadSleepers
 pub mod BadTold
 pub mod Codes
 pub mod Ending
@@ -13,6 +14,7 @@ pub mod Notes
 pub mod Orders
 pub mod Outcomes
 pub mod Passing
+pub mod Sleepers
 pub mod Stats
 pub mod Submissions
 pub mod Tickets

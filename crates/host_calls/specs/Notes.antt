@@ -28,6 +28,7 @@ HasCounts (member.House view) kept free = ⊥
 HasCounts (member.Core view) kept free = AreCounts view.recorded.journal kept free
 HasCounts (member.Outside view) kept free = AreCounts view.desk.journal kept free
 HasCounts (member.Ended view) kept free = ⊥
+HasCounts (member.Sleepers timers) kept free = ⊥
 
 -- both are told, and nothing changes
 abbrev pub NotesTold : Member → ℕ → ℕ → Code → ℕ → ℕ → Type 0
@@ -79,6 +80,7 @@ KeepsOn (member.House view) place found = ⊥
 KeepsOn (member.Core view) place found = KeepsAt view.recorded.journal place found
 KeepsOn (member.Outside view) place found = KeepsAt view.desk.journal place found
 KeepsOn (member.Ended view) place found = ⊥
+KeepsOn (member.Sleepers timers) place found = ⊥
 
 -- the name under which a note says that an outcome was collected
 abbrev pub came : Option (Note ℕ) → Option JobId

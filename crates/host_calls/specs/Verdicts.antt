@@ -37,6 +37,7 @@ AuditsTold (member.House house) before told after new = WaitsTold before told ×
 AuditsTold (member.Ended ended) before told after new = JudgesTold ended before told after × (new ≡ member.Ended ended)
 AuditsTold (member.Core core) before told after new = (told ≡ code.Empty) × (after ≡ before) × (new ≡ member.Core core)
 AuditsTold (member.Outside actor) before told after new = (told ≡ code.Empty) × (after ≡ before) × (new ≡ member.Outside actor)
+AuditsTold (member.Sleepers timers) before told after new = (told ≡ code.Empty) × (after ≡ before) × (new ≡ member.Sleepers timers)
 
 -- the code of a text that is read
 abbrev pub code_of_text : Result ℕ TextError → Code
@@ -65,3 +66,5 @@ ReadsTold (member.Core core) from before count told new after counted =
     (told ≡ code.Empty) × (new ≡ member.Core core) × (after ≡ before) × (counted ≡ count)
 ReadsTold (member.Outside actor) from before count told new after counted =
     (told ≡ code.Empty) × (new ≡ member.Outside actor) × (after ≡ before) × (counted ≡ count)
+ReadsTold (member.Sleepers timers) from before count told new after counted =
+    (told ≡ code.Empty) × (new ≡ member.Sleepers timers) × (after ≡ before) × (counted ≡ count)

@@ -176,6 +176,7 @@ fn outside_of(member: Member) -> Option<Outside>
         Member::House(_house) => None,
         Member::Core(_core) => None,
         Member::Ended(_ended) => None,
+        Member::Sleepers(_sleepers) => None,
     }
 }
 
@@ -188,6 +189,7 @@ fn core_of(member: Member) -> Option<Hosted>
         Member::House(_house) => None,
         Member::Outside(_outside) => None,
         Member::Ended(_ended) => None,
+        Member::Sleepers(_sleepers) => None,
     }
 }
 
@@ -198,7 +200,7 @@ fn has_passed(seat: &Member) -> bool
     match seat {
         Member::Core(core) => core.has_passed(),
         Member::Outside(outside) => outside.has_passed(),
-        Member::House(_) | Member::Ended(_) => false,
+        Member::House(_) | Member::Ended(_) | Member::Sleepers(_) => false,
     }
 }
 
@@ -220,6 +222,7 @@ fn journal_of(seat: Member) -> Journal<u64>
         }
         Member::House(_house) => unreachable!(),
         Member::Ended(_ended) => unreachable!(),
+        Member::Sleepers(_sleepers) => unreachable!(),
     }
 }
 

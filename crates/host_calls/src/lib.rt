@@ -12,6 +12,7 @@ pub mod notes;
 pub mod orders;
 pub mod outcomes;
 pub mod passing;
+pub mod sleepers;
 pub mod stats;
 pub mod stays;
 pub mod submissions;
@@ -20,3 +21,4 @@ pub mod verdicts;
 
 pub use code::{Code, number};
 pub use member::Member;
+pub use sleepers::Sleepers;

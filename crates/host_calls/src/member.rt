@@ -2,19 +2,21 @@
 
 ghost use Rattle.std.specs.Prelude.{◌≡◌, ◌↔◌, IsTrue};
 ghost use Rattle.host_calls.specs.Links.{ClosesTold, DeliversTold, IsTold, ShutsTold};
-ghost use Rattle.host_calls.specs.Members.{IsActor, OnCore};
+ghost use Rattle.host_calls.specs.Members.{IsActor, OnCore, OnSleepers};
 ghost use Rattle.host_calls.specs.Orders.{mode_of_number};
+ghost use Rattle.host_calls.specs.Sleepers.{SettlesUntil, TellsNext, WakesDueTold};
 ghost use Rattle.host_calls.specs.Turns.{NextsTold, SettlesTold, StepsTold, step_of};
 
 use crate::code::Code;
 use crate::house::KeptHouse;
 use crate::links::{close, deliver, drained, shut};
+use crate::sleepers::Sleepers;
 use crate::turns::{TurnTold, next, settle, settle_and_next};
 use host_core::Hosted;
 use host_house::Outside;
 use host_text::EndedHouse;
 
-/// The house, an actor of it, or what it left behind.
+/// The house, an actor of it, what it left behind, or the timers of a core.
 #[derive(Drop)]
 pub enum Member {
     /// The seats that nobody took yet, and the journals that were handed in.
@@ -25,6 +27,8 @@ pub enum Member {
     Outside(Outside),
     /// The journals of all actors.
     Ended(EndedHouse),
+    /// The timers of the jobs of one core, in this house or alone.
+    Sleepers(Sleepers),
 }
 
 impl Member {
@@ -34,7 +38,7 @@ impl Member {
     {
         match self {
             Member::Core(_) | Member::Outside(_) => true,
-            Member::House(_) | Member::Ended(_) => false,
+            Member::House(_) | Member::Ended(_) | Member::Sleepers(_) => false,
         }
     }
 
@@ -64,6 +68,53 @@ impl Member {
     {
         match self {
             Member::Core(core) => settle_and_next(core, step, answer, spent, turn),
+            _ => Code::Empty,
+        }
+    }
+
+    /// Settles the run of the job that `next` told. If it parks, its job sleeps until this time.
+    pub fn settle_until(
+        &mut self,
+        timers: &mut Member,
+        step: u32,
+        answer: u64,
+        spent: u64,
+        time: u64,
+    ) -> Code
+        ensures { OnCore self.old (timers.new ≡ timers.old) result self.new (λ old told new.
+            OnSleepers timers.old (new ≡ old) told timers.new (λ before code after. SettlesUntil (step_of step answer) spent time old before code new after)) }
+    {
+        match self {
+            Member::Core(core) => match timers {
+                Member::Sleepers(sleepers) => {
+                    sleepers.settle_until(core, step, answer, spent, time)
+                }
+                _ => Code::Empty,
+            },
+            _ => Code::Empty,
+        }
+    }
+
+    /// Wakes the job of the core whose timer is due next, if one is due by now.
+    pub fn wake_due(&mut self, timers: &mut Member, now: u64) -> Code
+        ensures { OnCore self.old (timers.new ≡ timers.old) result self.new (λ old told new.
+            OnSleepers timers.old (new ≡ old) told timers.new (λ before code after. WakesDueTold now old before code new after)) }
+    {
+        match self {
+            Member::Core(core) => match timers {
+                Member::Sleepers(sleepers) => sleepers.wake_due(core, now),
+                _ => Code::Empty,
+            },
+            _ => Code::Empty,
+        }
+    }
+
+    /// Tells when the next timer is due.
+    pub fn next_time(&self, time: &mut u64) -> Code
+        ensures { OnSleepers self.now (time.new ≡ time.old) result self.now (λ before code after. TellsNext before time.old code time.new × (after ≡ before)) }
+    {
+        match self {
+            Member::Sleepers(sleepers) => sleepers.next_time(time),
             _ => Code::Empty,
         }
     }

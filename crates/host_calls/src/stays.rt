@@ -18,7 +18,7 @@ impl Member {
     {
         match self {
             Member::House(_) => true,
-            Member::Core(_) | Member::Outside(_) | Member::Ended(_) => false,
+            Member::Core(_) | Member::Outside(_) | Member::Ended(_) | Member::Sleepers(_) => false,
         }
     }
 

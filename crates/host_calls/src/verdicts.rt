@@ -32,7 +32,7 @@ impl Member {
         match self {
             Member::House(_) => waits(verdict),
             Member::Ended(ended) => judge(alloc, ended, verdict),
-            Member::Core(_) | Member::Outside(_) => Code::Empty,
+            Member::Core(_) | Member::Outside(_) | Member::Sleepers(_) => Code::Empty,
         }
     }
 
@@ -43,7 +43,7 @@ impl Member {
         match self {
             Member::House(_) => Code::Pending,
             Member::Ended(ended) => tell_read(ended.read(alloc, from, bytes), count),
-            Member::Core(_) | Member::Outside(_) => Code::Empty,
+            Member::Core(_) | Member::Outside(_) | Member::Sleepers(_) => Code::Empty,
         }
     }
 }

@@ -7,4 +7,5 @@ pub mod Passing
 pub mod Submissions
 pub mod Takings
 pub mod Turns
+pub mod Waking
 pub mod Words

@@ -33,6 +33,7 @@ use std::alloc::Global;
 use std::marker::Model;
 
 mod opening;
+mod waking;
 
 /// The notes that a turn may take: the end of the one before, a pick with its note, and the settling.
 const TURN_NOTES: u16 = 4;

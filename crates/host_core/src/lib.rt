@@ -13,3 +13,4 @@ pub mod word;
 pub use answers::{Picked, Refusal};
 pub use hosted::Hosted;
 pub use job::HostJob;
+pub use turns::Run;

@@ -19,9 +19,9 @@ use core_core::{PickError, Turn};
 
 /// A job that the host runs, under its name.
 #[derive(Drop)]
-pub(crate) struct Run {
-    pub(crate) name: JobId,
-    pub(crate) job: HostJob,
+pub struct Run {
+    pub name: JobId,
+    pub job: HostJob,
 }
 
 /// The host is to run this job of a queue for the first time.

@@ -1,5 +1,6 @@
 -- Timers of a small worker that are refused: a sleep that is cut short, a wake before its time or of a job that isn't parked, and a timer that outlives its sleep.
-use Rattle.run_worker.proofs.Names.{ap, arith, Bool, due_behind, FindsNoneDue, Forgets, HasNoKey, inl, inr, JobId, LinkedView, LosesTimer, None, Option, refl, round_view, RoundView, ServedView, Sets, SetsSleep, Some, SparesOwn, suc, sym, Timers, WakesNext, WatchView, zero, ℕ, [], ◌+◌, ◌<◌, ◌∙◌, ◌∷◌, ◌≡◌, ◌≤◌, ◌⊎◌}
+use Rattle.run_worker.proofs.Names.{ap, arith, Bool, due_behind, FindsNoneDue, Forgets, HasNoKey, inl, inr, JobId, LinkedView, LosesTimer, None, Option, refl, round_view, RoundView, ServedView}
+use Rattle.run_worker.proofs.Names.{Sets, SetsSleep, Some, SparesOwn, suc, sym, Timers, WakesNext, WatchView, zero, ℕ, [], ◌+◌, ◌<◌, ◌∙◌, ◌∷◌, ◌≡◌, ◌≤◌, ◌⊎◌}
 use Rattle.std.specs.Prelude.{false, slice_set, true, ◌++◌}
 use Rattle.core_queues.specs.View.{Parks, QueuesView, parked_of}
 use Rattle.core_timers.specs.Timers.{Has, IsDue, Timer, timer_at}
