@@ -4,17 +4,15 @@
 //     if (house.submit(0, [n = 0]() mutable { return ++n == 3 ? fairexec::step::done : fairexec::step::yield; }) != FX_OK) return;
 //     while (house.run_turn().code != FX_IDLE) {}
 //
-// `core` is a core whose jobs are numbers. `house` is a core that keeps what its jobs are: `job` is any callable, and `task` a coroutine,
-// where the compiler has them (C++20). Nothing here is shared or locked: a core and a house belong to one thread at a time, and move
-// between threads as fairexec.h says.
+// `core` is a core whose jobs are numbers, and `timers` are for those that sleep. `house` is a core that keeps what its jobs are: `job` is any callable,
+// and `task` a coroutine, where the compiler has them (C++20). Its jobs sleep behind `open_timers`. Nothing here is shared or locked: a core and a house
+// belong to one thread at a time, and move between threads as fairexec.h says.
 #ifndef FAIREXEC_HPP
 #define FAIREXEC_HPP
 
-#include "fairexec.h"
-#include <algorithm>
+#include "fairexec_timers.hpp"
 #include <chrono>
 #include <cstddef>
-#include <functional>
 #include <memory>
 #include <new>
 #include <optional>
@@ -30,21 +28,8 @@
 
 namespace fairexec {
 
-// What the run of a job came to: it wants to run again, it is done, or it leaves its queue until it is woken.
-enum class step : uint32_t { yield = FX_STEP_YIELD, done = FX_STEP_DONE, park = FX_STEP_PARK };
-
 // How a queue or a core closes: its jobs run on, or each goes back.
 enum class mode : uint32_t { finish = FX_MODE_FINISH, give_back = FX_MODE_RETURN };
-
-// A call that was refused. `what` tells the code in words, behind the number that is out of its range if one is.
-class error : public std::runtime_error {
-    fx_code code_;
-
-public:
-    explicit error(uint32_t code) : std::runtime_error(fx_text(code)), code_(static_cast<fx_code>(code)) {}
-    error(uint32_t code, const std::string &of) : std::runtime_error(of + ": " + fx_text(code)), code_(static_cast<fx_code>(code)) {}
-    fx_code code() const noexcept { return code_; }
-};
 
 // A core whose jobs are numbers. It is moved, and never copied. One that was moved from has no core: its calls answer FX_EMPTY.
 class core {
@@ -99,6 +84,10 @@ public:
     [[nodiscard]] fx_code wake(uint64_t order) noexcept { return static_cast<fx_code>(fx_wake(&handle, order)); }
     [[nodiscard]] fx_code next(uint64_t &job) noexcept { return static_cast<fx_code>(fx_next(&handle, &job)); }
     [[nodiscard]] fx_code settle(step step, uint64_t spent) noexcept { return static_cast<fx_code>(fx_settle(&handle, static_cast<uint32_t>(step), spent)); }
+    [[nodiscard]] fx_code settle(step step, uint64_t spent, timers &timers, uint64_t until) noexcept {
+        return static_cast<fx_code>(fx_settle_until(&handle, &timers.get(), static_cast<uint32_t>(step), spent, until));
+    }
+    [[nodiscard]] fx_code wake_due(timers &timers, uint64_t now) noexcept { return static_cast<fx_code>(fx_wake_due(&handle, &timers.get(), now)); }
     [[nodiscard]] fx_code close_queue(uint32_t queue, mode mode) noexcept { return static_cast<fx_code>(fx_close_queue(&handle, queue, static_cast<uint32_t>(mode))); }
     [[nodiscard]] fx_code close(mode mode) noexcept { return static_cast<fx_code>(fx_close(&handle, static_cast<uint32_t>(mode))); }
 };
@@ -115,6 +104,12 @@ template <class Job, class Clock = std::chrono::steady_clock> class house {
     std::vector<std::optional<Job>> places;
     std::vector<uint32_t> vacant;
     core inner;
+    sleepers asleep;
+
+    fx_code settle(step came_to, uint64_t spent) noexcept {
+        if (!asleep) return inner.settle(came_to, spent);
+        return asleep.settle(came_to, [&](step step, timers &timers, uint64_t until) { return inner.settle(step, spent, timers, until); });
+    }
 
     // Settles the run that it saw begin, also if an exception ends it.
     struct running {
@@ -126,7 +121,7 @@ template <class Job, class Clock = std::chrono::steady_clock> class house {
 
         ~running() {
             auto spent = std::chrono::duration_cast<std::chrono::nanoseconds>(Clock::now() - began).count();
-            told = of.inner.settle(came_to, spent < 0 ? 0 : static_cast<uint64_t>(spent));
+            told = of.settle(came_to, spent < 0 ? 0 : static_cast<uint64_t>(spent));
             if (came_to == step::done) of.vacate(place);
         }
     };
@@ -172,6 +167,7 @@ public:
         if constexpr (std::is_class_v<Job> && std::is_constructible_v<bool, const Job &>) {
             if (!static_cast<bool>(job)) return FX_BAD_NUMBER;
         }
+        if (asleep && vacant.size() < 2) return inner.stats().closed != 0 ? FX_CLOSED : FX_FULL;
         uint32_t place = vacant.empty() ? 0 : vacant.back();
         fx_code code = inner.submit(queue, place, order);
         if (code != FX_OK) return code;
@@ -183,12 +179,32 @@ public:
     // Wakes the job of this number: FX_OK, or FX_FULL, FX_SPENT, FX_ABSENT. It looks again for what it waits for.
     [[nodiscard]] fx_code wake(uint64_t order) noexcept { return inner.wake(order); }
 
+    // Opens timers: from now on jobs may sleep by sleep_clock, and run_turn wakes those whose time has come. It asks for memory, 80 bytes a job. One place
+    // of the house stays free for wakes from then on, so there is room for one job less. It throws `error` with FX_FULL if none is free, or
+    // std::bad_alloc. A second call does nothing.
+    void open_timers() {
+        if (asleep) return;
+        if (vacant.empty()) throw error(FX_FULL);
+        asleep.open(static_cast<uint32_t>(places.size()));
+    }
+    // The step of a job that sleeps until this time, as in `return house.sleep_until(time);`. It runs again once that has come, or a wake: so it looks at
+    // the clock, or for what it waits for. The time of the last call in a run counts. Without timers it throws `error` with FX_EMPTY.
+    [[nodiscard]] step sleep_until(sleep_clock::time_point time) { return asleep.sleep_until(time); }
+    // When the next timer is due, if one is set: behind FX_IDLE the thread may sleep until then.
+    std::optional<sleep_clock::time_point> next_time() noexcept { return asleep.next_time(); }
+    // Wakes the jobs whose time has come by then: FX_IDLE, or FX_EMPTY without timers.
+    fx_code wake_due(sleep_clock::time_point now = sleep_clock::now()) noexcept {
+        return asleep.wake_due([&](timers &timers) { return inner.wake_due(timers, in_timers(now)); });
+    }
+
     // Runs the next job once: `run` is called with the job and the house, and answers a step.
     template <class Run> turn run_turn(Run &&run) {
         uint64_t place = 0;
+        if (asleep.may_be_due()) wake_due();
         fx_code code = inner.next(place);
         if (code == FX_BACK) return {code, vacate(place)};
         if (code != FX_START && code != FX_RESUME) return {code, std::nullopt};
+        asleep.until = FX_NEVER;
         turn told{FX_OK, std::nullopt};
         {
             running now{*this, place, told.code};
@@ -240,19 +256,25 @@ inline constexpr again_type again{};
 struct park_type {};
 inline constexpr park_type park{};
 
-// A coroutine as a job. It starts with its first run. An exception of it leaves run_turn. It awaits nothing but `again` and `park`:
-// each run resumes it, whatever it waits for.
+// A coroutine as a job. It starts with its first run. An exception of it leaves run_turn. It awaits nothing but `again`, `park`, `until`, `sleep_for` and
+// `park_until`: each run resumes it, except one before the time of `until` or `sleep_for`. One that sleeps is called with its house, as run_turn does,
+// and throws `error` with FX_EMPTY if that has no timers.
 class task {
 public:
     struct promise_type {
         std::exception_ptr thrown;
         bool parks = false;
+        std::optional<until_type> sleeps;
         task get_return_object() { return task(std::coroutine_handle<promise_type>::from_promise(*this)); }
         std::suspend_always initial_suspend() noexcept { return {}; }
         std::suspend_always final_suspend() noexcept { return {}; }
         std::suspend_always await_transform(again_type) noexcept { return {}; }
         std::suspend_always await_transform(park_type) noexcept {
             parks = true;
+            return {};
+        }
+        std::suspend_always await_transform(until_type until) noexcept {
+            sleeps = until;
             return {};
         }
         void return_void() noexcept {}
@@ -266,143 +288,32 @@ public:
     }
     explicit operator bool() const noexcept { return at != nullptr; }
 
+    template <class House> step operator()(House &of) {
+        std::optional<until_type> &sleeps = at.promise().sleeps;
+        if (sleeps && !sleeps->is_over()) return of.sleep_until(sleeps->time);
+        step told = resumed();
+        return sleeps ? of.sleep_until(sleeps->time) : told;
+    }
+    // Without a house none sleeps.
     step operator()() {
-        at.promise().parks = false;
-        at.resume();
-        if (at.promise().thrown) std::rethrow_exception(std::exchange(at.promise().thrown, nullptr));
-        return at.done() ? step::done : at.promise().parks ? step::park : step::yield;
+        sleepers none;
+        return (*this)(none);
     }
 
 private:
     std::coroutine_handle<promise_type> at;
     explicit task(std::coroutine_handle<promise_type> at) : at(at) {}
+
+    step resumed() {
+        promise_type &of = at.promise();
+        of.parks = false;
+        of.sleeps.reset();
+        at.resume();
+        if (of.thrown) std::rethrow_exception(std::exchange(of.thrown, nullptr));
+        return at.done() ? step::done : of.parks ? step::park : step::yield;
+    }
 };
 #endif
-
-namespace linked {
-// How notes are passed on and copied: as text, some 40 bytes and 250 ns a note, or as parts of a journal in bytes, some 16 bytes and a fifth of that time.
-enum class form { text, bytes };
-
-// The notes of an actor of a house: what becomes of them.
-class noted {
-    // Notes are counted behind so many calls, and go on once there is a piece of them. Whoever takes them is handed so many at a time, if there are more.
-    static constexpr uint32_t calls = 256;
-    static constexpr uint64_t piece = 1024, most_notes = 4096;
-    // Who takes the notes, and where they stand as text or in bytes until he took them. Of the notes that the journal keeps so many, the oldest, went
-    // on already; so many were kept and are no more; and so many stand there.
-    std::function<void(const std::string &)> keeper;
-    std::string notes;
-    uint64_t passed = 0, gone = 0, held = 0;
-    uint32_t left = calls;
-
-    // A call of the library copies so many at most, and so does a call that looks after notes: some 20 us.
-    uint64_t copied() const noexcept { return how == form::text ? 128 : 256; }
-    // Puts some notes that didn't go on behind this text, and forgets all once none is left: FX_OK or FX_NO_MEMORY.
-    fx_code put_some(std::string &text) {
-        uint64_t some = 0, count = 0;
-        fx_code code = copy(passed, copied(), text, some);
-        if (code != FX_OK) return code;
-        passed += some;
-        held += some;
-        if (some == copied()) return FX_OK;
-        passed = 0;
-        return forget(count);
-    }
-    // Copies notes for whoever takes them, behind those that an exception of his left: some, or all. He takes them once all are copied, or many. Whether
-    // anybody takes them.
-    bool hand_on(bool all) {
-        if (!keeper) return false;
-        do {
-            if (put_some(notes) != FX_OK) return false;
-        } while (passed > 0 && all);
-        if (passed > 0 && held < most_notes) return true;
-        keeper(notes);
-        notes.clear();
-        held = 0;
-        return true;
-    }
-    // Hands notes on before the journal is full. A journal of few notes waits until it is.
-    void look() {
-        left = calls;
-        uint64_t kept = 0, free_notes = 0;
-        if (!keeper || notes_kept(kept, free_notes) != FX_OK) return;
-        if (kept + free_notes >= 2 * piece && (passed > 0 || kept >= piece)) hand_on(false);
-        if (passed > 0) left = calls / 16;
-    }
-
-protected:
-    fx_seat seat = FX_NO_SEAT;
-    form how = form::text;
-
-    noted() = default;
-    noted(noted &&other) noexcept
-        : keeper(std::move(other.keeper)), notes(std::move(other.notes)), passed(other.passed), gone(other.gone), held(other.held), left(other.left),
-          seat(std::exchange(other.seat, fx_seat FX_NO_SEAT)), how(other.how) {}
-    // So many calls may have made as many notes as one did.
-    void count_more(uint64_t of) { left -= static_cast<uint32_t>(std::min<uint64_t>(left - 1, of)); }
-    // Makes a call, and makes it again if the journal is full and somebody takes its notes.
-    template <class Call> uint32_t called(Call call) {
-        if (--left == 0) look();
-        uint32_t code = call();
-        return code == FX_JOURNAL_FULL && hand_on(true) ? call() : code;
-    }
-
-public:
-    // Puts the notes that the journal keeps behind this text, in the form of the house: FX_OK, or FX_NO_MEMORY. The journal keeps none of them then,
-    // and all its notes are free. All parts of an actor are its notes in the text of the journals, or in the journals as bytes. An exception of the
-    // string loses none of them.
-    [[nodiscard]] fx_code pass_on(std::string &text) {
-        do {
-            fx_code code = put_some(notes);
-            if (code != FX_OK) return code;
-        } while (passed > 0);
-        text += notes;
-        notes.clear();
-        held = 0;
-        return FX_OK;
-    }
-    // How many notes the journal keeps, and how many more it has room for: FX_OK, or FX_EMPTY behind the end.
-    [[nodiscard]] fx_code notes_kept(uint64_t &kept, uint64_t &free_notes) noexcept { return static_cast<fx_code>(fx_seat_notes(&seat, &kept, &free_notes)); }
-    // Puts so many notes at most behind this text, in the form of the house, from the place `from` on of those that the journal keeps, and writes how
-    // many they are: FX_OK, FX_NO_MEMORY or FX_EMPTY. All of them stay. Of no notes there is no part. An exception of the string leaves all as it was.
-    [[nodiscard]] fx_code copy(uint64_t from, uint64_t most, std::string &text, uint64_t &notes_copied) {
-        std::size_t had = text.size();
-        // A line has at most 128 bytes, and a note in bytes 27, behind a head and before sums of 45.
-        uint64_t code, count = how == form::text ? 128 * std::min(most, copied()) + 1 : 27 * std::min(most, copied()) + 45;
-        do {
-            text.resize(had);
-            text.resize(had + static_cast<std::size_t>(count));
-            auto bytes = reinterpret_cast<uint8_t *>(&text[had]);
-            std::size_t room = text.size() - had;
-            code = how == form::text ? fx_seat_copy(&seat, from, most, bytes, room, &count, &notes_copied)
-                                     : fx_seat_copy_bytes(&seat, gone + from, from, most, bytes, room, &count, &notes_copied);
-        } while (code == FX_SHORT);
-        text.resize(code == FX_OK && notes_copied > 0 ? had + static_cast<std::size_t>(count) : had);
-        return static_cast<fx_code>(code);
-    }
-    // Forgets the notes that the journal keeps, and writes how many they were. All its notes are free then, and the house can't judge.
-    [[nodiscard]] fx_code forget(uint64_t &count) noexcept {
-        passed = 0;
-        fx_code code = static_cast<fx_code>(fx_seat_forget(&seat, &count));
-        if (code == FX_OK) gone += count;
-        return code;
-    }
-
-    // From now on notes go to `takes`, as by `pass_on`, before the journal is full: about a thousand at a time, and 4096 at most. No call copies more
-    // than 128 as text or 256 in bytes, which is some 20 us; one in ten of these calls is that of `takes`. A journal that has room for fewer than
-    // 2048, or is nearly full by now, goes out when it is full. So FX_JOURNAL_FULL comes only if the journal has room for fewer notes than one call may
-    // need. What is kept at the end goes out by `pass_on`.
-    // An exception of `takes` leaves that call, which wasn't made; a job that was handed in with it is destroyed. What was written is kept: it goes first
-    // the next time that notes go to `takes`, or to pass_on.
-    void keep_notes_by(std::function<void(const std::string &)> takes) { keeper = std::move(takes); }
-
-    // Hands the journal to the house. What went on already goes on whole before.
-    [[nodiscard]] fx_code end(fx_house &house) {
-        if (passed > 0 && keeper && !hand_on(true)) return FX_NO_MEMORY;
-        return static_cast<fx_code>(fx_house_end(&house, &seat));
-    }
-};
-} // namespace linked
 
 } // namespace fairexec
 

@@ -3,6 +3,7 @@
 #define FAIREXEC_ACTOR_HPP
 
 #include "fairexec.hpp"
+#include "fairexec_notes.hpp"
 #include <algorithm>
 #include <atomic>
 #include <condition_variable>
@@ -149,10 +150,11 @@ template <class Job> class actor : public noted {
         std::optional<outcome<Job>> told;
         waiting(const ticket &of, const fx_name &job) : of(of), job(job) {}
     };
-    // Of the submissions to one core: the places where no job of this actor stands, from that which is vacant longest, and how many outcomes weren't
-    // collected.
+    // Of the submissions to one core: the places where no job of this actor stands, from that which is vacant longest, of which so many stay so; and how
+    // many outcomes weren't collected.
     struct sent {
         std::deque<uint32_t> vacant;
+        std::size_t stay = 0;
         uint64_t pending = 0;
     };
     std::vector<sent> to_core;
@@ -215,11 +217,14 @@ template <class Job> class actor : public noted {
         }
     }
 
-
 protected:
     uint32_t own = 0;
     std::shared_ptr<lanes<Job>> shared;
 
+    // No job of this actor takes the last place of its link to itself: a lane has one place more than its link.
+    void keep_place() { to_core[own].stay = 2; }
+    // The library submitted a wake to this core.
+    void sent_to_itself() { to_core[own].pending++; }
     submitted<Job> accepted(const fx_name &name, std::optional<uint32_t> place) {
         to_core[name.to].pending++;
         shared->ring(name.to);
@@ -252,7 +257,7 @@ public:
     submitted<Job> submit(uint32_t to, uint32_t queue, Job job) {
         if (to >= shared->cores()) return {FX_UNKNOWN_CORE, std::nullopt, std::move(job)};
         auto &vacant = to_core[to].vacant;
-        if (vacant.empty()) return {FX_FULL, std::nullopt, std::move(job)};
+        if (vacant.size() <= to_core[to].stay) return {FX_FULL, std::nullopt, std::move(job)};
         uint32_t place = vacant.front();
         shared->put(own, to, place, std::move(job));
         fx_name name;
@@ -366,6 +371,20 @@ public:
         if (may_sleep()) shared->wait(own, longest);
         is_awake();
     }
+};
+
+// What a job may do while it runs.
+template <class Job> class cx {
+    actor<Job> &of;
+    sleepers &asleep;
+
+public:
+    const fx_name name;
+    const uint32_t queue;
+    cx(actor<Job> &of, sleepers &asleep, const fx_turn &turn) : of(of), asleep(asleep), name(turn.name), queue(turn.queue) {}
+    actor<Job> *operator->() noexcept { return &of; }
+    // The step of a job that sleeps until this time, as in `return here.sleep_until(time);`: see `sleep_until` of fairexec::house.
+    [[nodiscard]] step sleep_until(sleep_clock::time_point time) { return asleep.sleep_until(time); }
 };
 
 } // namespace fairexec::linked

@@ -27,17 +27,6 @@ struct config {
     }
 };
 
-// What a job may do while it runs.
-template <class Job> class cx {
-    actor<Job> &of;
-
-public:
-    const fx_name name;
-    const uint32_t queue;
-    cx(actor<Job> &of, const fx_turn &turn) : of(of), name(turn.name), queue(turn.queue) {}
-    actor<Job> *operator->() noexcept { return &of; }
-};
-
 // The counts of a core and of its queues by their numbers, as they were together at one time.
 struct counts {
     fx_core_stats core;
@@ -63,6 +52,8 @@ template <class Job, class Clock = std::chrono::steady_clock> class core : publi
     static_assert(std::is_nothrow_move_constructible_v<Job>, "a job moves in and out without an exception");
     static_assert(noexcept(Clock::now()), "a clock tells the time without an exception");
 
+    sleepers asleep;
+
     // Settles the run that it saw begin, also if an exception ends it.
     struct running {
         core &of;
@@ -79,7 +70,7 @@ template <class Job, class Clock = std::chrono::steady_clock> class core : publi
             // The job is in its place, or gone, before the library gives it on.
             if (came_to.came_to == step::done) job.reset();
             else of.shared->put(name.from, name.to, turn.job, std::move(*job));
-            told = static_cast<fx_code>(fx_seat_settle(&of.seat, static_cast<uint32_t>(came_to.came_to), came_to.answer, spent < 0 ? 0 : static_cast<uint64_t>(spent)));
+            told = of.asleep.settle(of.seat, came_to.came_to, came_to.answer, spent < 0 ? 0 : static_cast<uint64_t>(spent));
             if (told == FX_DONE && name.from != of.own) of.shared->ring(name.from);
         }
     };
@@ -97,11 +88,12 @@ template <class Job, class Clock = std::chrono::steady_clock> class core : publi
         fx_code code = static_cast<fx_code>(this->called([&] { return fx_seat_next(&this->seat, &turn); }));
         if (code == FX_BACK) this->shared->ring(turn.name.from);
         if (code != FX_START && code != FX_RESUME) return code;
+        asleep.until = FX_NEVER;
         typename Clock::time_point began = of.are_told ? of.ended : Clock::now();
         if (!std::exchange(of.are_told, true)) of.first = began;
         {
             running now{*this, turn, code, began, of.ended};
-            cx<Job> here(*this, turn);
+            cx<Job> here(*this, asleep, turn);
             now.came_to = run(*now.job, here);
         }
         return code;
@@ -149,8 +141,10 @@ public:
         return code;
     }
 
-    // Delivers an order of each actor, or so many. A closed core shuts the gates: its own once no job is inside, since jobs may have to be woken.
+    // Delivers an order of each actor, or so many. Before that it wakes the jobs whose time has come. A closed core shuts the gates: its own once no job
+    // is inside, since jobs may have to be woken.
     [[nodiscard]] fx_code deliver(bool &did, uint32_t of_each = 1) {
+        if (asleep.may_be_due() && wake_due() == FX_JOURNAL_FULL) return FX_JOURNAL_FULL;
         for (uint32_t sender = this->shared->cores() + 1; sender-- > 0;) {
             if (sender == this->own && stats().held > 0) continue;
             uint32_t code = this->called([&] { return fx_seat_shut(&this->seat, sender); });
@@ -168,6 +162,28 @@ public:
         }
         count_turns(did ? 1 : 0);
         return FX_OK;
+    }
+
+    // Opens timers: from now on jobs of this core may sleep by sleep_clock, and `deliver` wakes those whose time has come. It asks for memory, 80 bytes for
+    // each place of each link to this core. A wake is an order of the core to itself, so one place of that link stays free of its jobs. It throws `error`
+    // with FX_BAD_NUMBER if links have a single place, or std::bad_alloc. A second call does nothing.
+    void open_timers() {
+        uint32_t places = this->shared->room() - 1;
+        if (places < 2) throw error(FX_BAD_NUMBER, "places = 1");
+        if (asleep) return;
+        asleep.open((this->shared->cores() + 1) * places);
+        this->keep_place();
+    }
+    // When the next timer is due, if one is set: a thread that sleeps by its own means sleeps until then at most.
+    std::optional<sleep_clock::time_point> next_time() noexcept { return asleep.next_time(); }
+    // Submits a wake of each job whose time has come by then, which is delivered as any order: FX_IDLE, FX_JOURNAL_FULL, FX_FULL if the link takes no more
+    // for now, or FX_EMPTY without timers.
+    fx_code wake_due(sleep_clock::time_point now = sleep_clock::now()) {
+        return asleep.wake_due([&](timers &timers) {
+            uint32_t code = this->called([&] { return fx_seat_wake_due(&this->seat, &timers.get(), in_timers(now)); });
+            if (code == FX_OK) this->sent_to_itself();
+            return code;
+        });
     }
 
     // One round: it delivers what the links show, runs jobs for 5 us or as long as one run takes, and collects: FX_OK if anything happened, else FX_IDLE,
@@ -238,14 +254,14 @@ public:
         if (told_on) fx_board_tell(told_on.get(), &this->seat);
     }
 
-    // As those of `actor`. The counts are told before.
+    // As those of `actor`. The counts are told before, and a timer that is due ends the sleep.
     bool may_sleep() {
         rest();
         return actor<Job>::may_sleep();
     }
     void sleep(std::chrono::nanoseconds longest = std::chrono::nanoseconds::max()) {
         rest();
-        actor<Job>::sleep(longest);
+        actor<Job>::sleep(std::min(longest, asleep.left()));
     }
 };
 
@@ -368,28 +384,6 @@ public:
         } while (count == part.size());
         return all;
     }
-};
-
-// Any callable that answers a result or a step, with a cx or without, also one that can only be moved.
-class job {
-    struct base {
-        virtual ~base() = default;
-        virtual result run(cx<job> &here) = 0;
-    };
-    template <class Call> struct holding final : base {
-        Call call;
-        explicit holding(Call &&given) : call(std::move(given)) {}
-        result run(cx<job> &here) override {
-            if constexpr (std::is_invocable_v<Call &, cx<job> &>) return call(here);
-            else return call();
-        }
-    };
-    std::unique_ptr<base> held;
-
-public:
-    template <class Call, class = std::enable_if_t<!std::is_same_v<std::decay_t<Call>, job>>>
-    job(Call call) : held(std::make_unique<holding<Call>>(std::move(call))) {}
-    result operator()(cx<job> &here) { return held->run(here); }
 };
 
 } // namespace fairexec::linked

@@ -1,15 +1,39 @@
-// fairexec_task.hpp: coroutines as jobs of a house, for fairexec_house.hpp, which includes it.
+// fairexec_task.hpp: callables and coroutines as jobs of a house, for fairexec_house.hpp, which includes it.
 #ifndef FAIREXEC_TASK_HPP
 #define FAIREXEC_TASK_HPP
 
 #include "fairexec_house.hpp"
 
-#if defined(__cpp_impl_coroutine)
 namespace fairexec::linked {
 
+// Any callable that answers a result or a step, with a cx or without, also one that can only be moved.
+class job {
+    struct base {
+        virtual ~base() = default;
+        virtual result run(cx<job> &here) = 0;
+    };
+    template <class Call> struct holding final : base {
+        Call call;
+        explicit holding(Call &&given) : call(std::move(given)) {}
+        result run(cx<job> &here) override {
+            if constexpr (std::is_invocable_v<Call &, cx<job> &>) return call(here);
+            else return call();
+        }
+    };
+    std::unique_ptr<base> held;
+
+public:
+    template <class Call, class = std::enable_if_t<!std::is_same_v<std::decay_t<Call>, job>>>
+    job(Call call) : held(std::make_unique<holding<Call>>(std::move(call))) {}
+    result operator()(cx<job> &here) { return held->run(here); }
+};
+
+#if defined(__cpp_impl_coroutine)
 // A coroutine as a job of a house: `co_return 42;` is its answer, `co_await again;` and `co_await park;` end a run, and
 // `co_await ask(core, queue, task)` submits another one and goes on with its outcome. Until that has come it is parked, and the other holds a place of
-// the link: coroutines that wait for more others than a link has places wait for ever. An exception of a coroutine leaves run_turn; a submission that is refused for good throws `error` in the coroutine.
+// the link: coroutines that wait for more others than a link has places wait for ever. An exception of a coroutine leaves run_turn; a submission that is
+// refused for good throws `error` in the coroutine. On a core with timers it also awaits `until`, `sleep_for` and `park_until` (fairexec_timers.hpp); on
+// one without them that is an exception of it, `error` with FX_EMPTY.
 class task {
 public:
     struct promise_type;
@@ -37,6 +61,7 @@ inline task::asking ask(uint32_t to, uint32_t queue, task job) { return {to, que
 struct task::promise_type {
     std::exception_ptr thrown;
     bool parks = false;
+    std::optional<until_type> sleeps;
     uint64_t answer = 0;
     // What it asks another core, from the submission to the outcome.
     std::optional<asking> sends;
@@ -62,6 +87,10 @@ struct task::promise_type {
     std::suspend_always await_transform(again_type) noexcept { return {}; }
     std::suspend_always await_transform(park_type) noexcept {
         parks = true;
+        return {};
+    }
+    std::suspend_always await_transform(until_type until) noexcept {
+        sleeps = until;
         return {};
     }
     awaits await_transform(asking what) {
@@ -97,17 +126,21 @@ struct task::promise_type {
 
 inline result task::operator()(cx<task> &here) {
     promise_type &of = at.promise();
+    if (of.sleeps && !of.sleeps->is_over()) return here.sleep_until(of.sleeps->time);
     while (of.may_go_on(here)) {
         of.parks = false;
+        of.sleeps.reset();
         at.resume();
         if (of.thrown) std::rethrow_exception(std::exchange(of.thrown, nullptr));
         if (at.done()) return done(of.answer);
+        if (of.sleeps) return here.sleep_until(of.sleeps->time);
         if (!of.sends) return of.parks ? step::park : step::yield;
     }
     return of.waits ? step::park : step::yield;
 }
 
-} // namespace fairexec::linked
 #endif
+
+} // namespace fairexec::linked
 
 #endif

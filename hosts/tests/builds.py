@@ -46,9 +46,9 @@ SANITIZERS = {"": [], "address,undefined": ["-fsanitize=address,undefined", "-fn
 
 
 # The thread sanitizer doesn't see the library's links. This tells it what they order.
-WRAPPED = ",".join(f"--wrap=fx_seat_{it}" for it in ("submit", "deliver", "settle", "step", "collect"))
+WRAPPED = ",".join(f"--wrap={it}" for it in sorted(set(re.findall(r"\b__wrap_(fx_seat_\w+)\(", (HOSTS / "c/fairexec_tsan.c").read_text()))))
 LINKS = [HOSTS / "c/fairexec_tsan.c", f"-Wl,{WRAPPED}"]
-OF_HOUSE = ("house.c", "sharded.cpp", "wrapper_house.cpp", "wrapper_drops.cpp", "wrapper_callers.cpp", "wrapper_board.cpp", "house_threads.c", "house_callers.c", "house_board.c")
+OF_HOUSE = ("house.c", "sharded.cpp", "wrapper_house.cpp", "wrapper_drops.cpp", "wrapper_callers.cpp", "wrapper_board.cpp", "wrapper_timers.cpp", "house_threads.c", "house_callers.c", "house_board.c")
 
 
 # How an example tells what a queue of a core got, or both.
@@ -127,7 +127,7 @@ class Builds:
         return task
 
     def same_code(self, compiler, text, suffix, flag):
-        """The text has the same code with that flag and without it."""
+        """The text has the same code with that flag and without it. Below -O3 a compiler may inline otherwise, since a test counts before it is left out."""
         what = f"{compiler}: the first listing with {flag} and without"
 
         def task():
@@ -137,7 +137,7 @@ class Builds:
             for flags in ([], [flag]):
                 to = f"{self.room}/same_{re.sub(r'[^a-z]', 'p', compiler)}{len(flags)}"
                 Path(f"{to}.{suffix}").write_text(text)
-                made = call([compiler, "-std=c++17" if suffix == "cpp" else "-std=c99", "-O1", *INCLUDES, *flags, "-c", f"{to}.{suffix}", "-o", f"{to}.o"])
+                made = call([compiler, "-std=c++17" if suffix == "cpp" else "-std=c99", "-O3", *INCLUDES, *flags, "-c", f"{to}.{suffix}", "-o", f"{to}.o"])
                 made = made if made.returncode else call(["objcopy", "-O", "binary", "-j", ".text*", f"{to}.o", to])
                 if made.returncode:
                     return what, ended(made), 0

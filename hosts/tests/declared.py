@@ -48,9 +48,9 @@ CODES = {"QueueClosed": "FX_CLOSED", "CoreClosed": "FX_CLOSED"}
 
 def in_c(kind, name):
     kind = re.sub(r"\s+", " ", kind).strip()
-    # One struct of the crate stands behind both handles of a house.
+    # One struct of the crate stands behind both handles of a house, and behind timers.
     if kind == "&mut SeatHandle":
-        return "fx_house *" if name == "house" else "fx_seat *"
+        return {"house": "fx_house *", "timers": "fx_timers *"}.get(name, "fx_seat *")
     pointed = re.match(r"(?:&mut|\*mut) (\w+)$", kind)
     if kind in RUST or not pointed:
         return RUST.get(kind) or re.sub(r"^\*const (fx_\w+)$", r"const \1 *", kind)
@@ -73,7 +73,7 @@ def of_rust(text):
         functions[name] = [(in_c(answer, ""), "")] + declared(given)
     structs = {}
     for name, body in re.findall(r"#\[repr\(C\)\]\s*(?:#\[[^\]]*\]\s*)*pub struct (\w+)(?:<[^>]*>)? \{(.*?)\n\}", text, re.DOTALL):
-        for of in ["fx_house", "fx_seat"] if name == "SeatHandle" else [STRUCTS.get(name, name)]:
+        for of in ["fx_house", "fx_seat", "fx_timers"] if name == "SeatHandle" else [STRUCTS.get(name, name)]:
             structs[of] = [(re.sub(r"^uint8_t \*$", "void *", kind), field) for kind, field in declared(body)]
     codes = {name: int(number.replace("_", "")) for name, number in re.findall(r"const (FX_\w+): u32 = ([\d_]+);", text)}
     for names, number in re.findall(r"^\s*((?:Code|Answer|Reason)::\w+(?:\(_\))?(?: \| Code::\w+)*) => (\d+),", text, re.MULTILINE):

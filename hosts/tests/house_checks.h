@@ -102,10 +102,13 @@ static const fx_name first_of_outside = {1, 2, 0};
 
 /* The calls that want a core. */
 static void no_core(fx_seat *seat) {
+    fx_timers timers = FX_NO_TIMERS;
     poison();
     IS(fx_seat_next(seat, &out.turn), FX_EMPTY);
     IS(fx_seat_settle(seat, 3, 0, 0), FX_EMPTY);
     IS(fx_seat_step(seat, 3, 0, 0, &out.turn), FX_EMPTY);
+    IS(fx_seat_settle_until(seat, &timers, 3, 0, 0, 0), FX_EMPTY);
+    IS(fx_seat_wake_due(seat, &timers, 0), FX_EMPTY);
     IS(fx_seat_deliver(seat, 99), FX_EMPTY);
     IS(fx_seat_close(seat, 2), FX_EMPTY);
     IS(fx_seat_shut(seat, 99), FX_EMPTY);

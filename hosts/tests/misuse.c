@@ -45,12 +45,15 @@ static void empty(fx_core *core) {
     uint64_t job = POISON;
     fx_core_stats stats = {POISON, 0, 0, 0, 0, 0, 0, 0, 0};
     fx_queue_stats queue_stats = {POISON, 0, 0, 0, 0, 0, 0, 0, 0, 0};
+    fx_timers timers = FX_NO_TIMERS;
     IS(fx_free(core), FX_EMPTY);
     IS(fx_create(core, 0, &queue), FX_EMPTY);
     IS(fx_set_shares(core, 300, 0), FX_EMPTY);
     IS(fx_submit(core, 300, 1), FX_EMPTY);
     IS(fx_next(core, &job), FX_EMPTY);
     IS(fx_settle(core, 3, 0), FX_EMPTY);
+    IS(fx_settle_until(core, &timers, 3, 0, 0), FX_EMPTY);
+    IS(fx_wake_due(core, &timers, 0), FX_EMPTY);
     IS(fx_submit_numbered(core, 300, 1, &job), FX_EMPTY);
     IS(fx_wake(core, 1), FX_EMPTY);
     IS(fx_close_queue(core, 300, 2), FX_EMPTY);

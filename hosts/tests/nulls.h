@@ -8,8 +8,8 @@
 #include "checks.h"
 #include <string.h>
 
-/* How far the job of the core and the job of core 0 of the house came. The house has two cores. */
-enum { VACANT, UNTAKEN, SUBMITTED, DELIVERED, RUNNING, COLLECTED, CLOSED, DRAINED, ENDED };
+/* How far the job of the core and the job of core 0 of the house came. The house has two cores. A job that sleeps goes no further. */
+enum { VACANT, UNTAKEN, SUBMITTED, DELIVERED, RUNNING, ASLEEP, COLLECTED, CLOSED, DRAINED, ENDED };
 
 enum { CORES = 2, POISON = 0x5a };
 
@@ -18,6 +18,7 @@ typedef struct {
     fx_core core;
     fx_house house;
     fx_seat seats[CORES + 1], more;
+    fx_timers timers, seat_timers;
     fx_config config;
     fx_name job, name;
     fx_turn turn;
@@ -33,7 +34,8 @@ typedef struct {
 /* These, and what the library tells of the core and of the house. */
 typedef struct {
     places here;
-    uint32_t codes[4 + 2 * CORES];
+    uint32_t codes[6 + 2 * CORES];
+    uint64_t times[2];
     fx_core_stats core, cores[CORES];
     fx_queue_stats queue, queues[CORES];
 } state;
@@ -59,13 +61,17 @@ static void look(state *of) {
     }
     *code++ = fx_seat_shows(&here.seats[0]);
     *code++ = fx_seat_drained(&here.seats[0]);
+    *code++ = fx_next_time(&here.timers, &of->times[0]);
+    *code++ = fx_next_time(&here.seat_timers, &of->times[1]);
 }
 
 /* The job of the core, which gets the number 1. */
 static void reach_of_core(int stage) {
     IS(fx_open(&here.core, 4), FX_OK);
     IS(fx_submit_numbered(&here.core, 0, 7, &here.count), FX_OK);
+    IS(fx_timers_open(&here.timers, 4), FX_OK);
     if (stage >= RUNNING) IS(fx_next(&here.core, &here.count), FX_START);
+    if (stage == ASLEEP) IS(fx_settle_until(&here.core, &here.timers, FX_STEP_PARK, 1, 9), FX_PARKED);
 }
 
 static void drain(void) {
@@ -79,9 +85,11 @@ static void drain(void) {
 static void reach_of_house(int stage) {
     IS(fx_house_open(&here.house, &here.config), FX_OK);
     for (int left = CORES; left >= 0 && stage > UNTAKEN; left--) IS(fx_house_take(&here.house, &here.seats[left], &here.number), FX_OK);
+    IS(fx_timers_open(&here.seat_timers, 8), FX_OK);
     if (stage >= SUBMITTED) IS(fx_seat_submit(&here.seats[0], 0, 0, 7, &here.job), FX_OK);
     if (stage >= DELIVERED) IS(fx_seat_deliver(&here.seats[0], 0), FX_OK);
     if (stage >= RUNNING) IS(fx_seat_next(&here.seats[0], &here.turn), FX_START);
+    if (stage == ASLEEP) IS(fx_seat_settle_until(&here.seats[0], &here.seat_timers, FX_STEP_PARK, 0, 1, 9), FX_PARKED);
     if (stage >= COLLECTED) IS(fx_seat_settle(&here.seats[0], FX_STEP_DONE, 1, 1), FX_DONE);
     if (stage >= COLLECTED) IS(fx_seat_collect(&here.seats[0], 0, &here.count), FX_OK);
     if (stage >= CLOSED) IS(fx_seat_close(&here.seats[0], FX_MODE_FINISH), FX_OK);
@@ -107,6 +115,8 @@ static void begin(int stage) {
 
 static void end(void) {
     fx_free(&here.core);
+    fx_timers_free(&here.timers);
+    fx_timers_free(&here.seat_timers);
     for (int each = 0; each <= CORES; each++) fx_seat_free(&here.seats[each]);
     fx_seat_free(&here.more);
     fx_house_free(&here.house);

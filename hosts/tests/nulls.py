@@ -56,14 +56,17 @@ def header_of(text):
 
 # What the caller hands in beside a null: with these numbers and places, and at its stage (nulls.h), a call without a null does something.
 NUMBERS = {"jobs": "4", "shares": "100", "queue": "0", "job": "7", "order": "1", "step": "FX_STEP_YIELD", "spent": "1", "mode": "FX_MODE_RETURN", "from": "0", "room": "sizeof here.bytes",
-           "answer": "1", "before": "0", "sender": "0", "core": "0", "to": "0", "most": "9", "place": "5"}
+           "answer": "1", "before": "0", "sender": "0", "core": "0", "to": "0", "most": "9", "place": "5", "time": "9", "now": "9"}
 PLACES = {"fx_core *": "&here.core", "fx_house *": "&here.house", "fx_seat *": "seat", "const fx_config *": "&here.config", "const fx_name *": "&here.job",
           "fx_core_stats *": "&here.core_stats", "fx_queue_stats *": "&here.queue_stats", "fx_turn *": "&here.turn", "fx_outcome *": "&here.outcome", "fx_name *": "&here.name",
-          "fx_verdict *": "&here.verdict", "uint32_t *": "&here.number", "uint64_t *": "&here.count", "uint8_t *": "here.bytes"}
+          "fx_verdict *": "&here.verdict", "fx_timers *": "&here.timers", "uint32_t *": "&here.number", "uint64_t *": "&here.count", "uint8_t *": "here.bytes"}
 # A second number of a call has a place of its own.
 SECOND = {"free_notes": "&here.second", "notes": "&here.second"}
+# The timers of a seat, which the calls on one take.
+OF_SEAT = {"fx_timers *": "&here.seat_timers"}
 STAGES = {"fx_open": "VACANT", "fx_house_open": "VACANT", "fx_house_take": "UNTAKEN", "fx_settle": "RUNNING", "fx_seat_settle": "RUNNING", "fx_seat_step": "RUNNING", "fx_seat_next": "DELIVERED",
-          "fx_seat_redeem": "COLLECTED", "fx_seat_came": "COLLECTED", "fx_seat_shut": "CLOSED", "fx_seat_drained": "DRAINED", "fx_house_end": "DRAINED", "fx_house_audit": "ENDED", "fx_house_text": "ENDED"}
+          "fx_seat_redeem": "COLLECTED", "fx_seat_came": "COLLECTED", "fx_seat_shut": "CLOSED", "fx_seat_drained": "DRAINED", "fx_house_end": "DRAINED", "fx_house_audit": "ENDED", "fx_house_text": "ENDED",
+          "fx_timers_open": "VACANT", "fx_settle_until": "RUNNING", "fx_seat_settle_until": "RUNNING", "fx_next_time": "ASLEEP", "fx_wake_due": "ASLEEP", "fx_seat_wake_due": "ASLEEP"}
 
 
 def caller_of(text):
@@ -71,9 +74,10 @@ def caller_of(text):
     lines = ['#include "nulls.h"', "", "int main(void) {"]
     for name, parts in calls(text).items():
         of = pointers(parts)
+        places = {**PLACES, **OF_SEAT} if name.startswith("fx_seat_") else PLACES
         lines.append(f"    begin({STAGES.get(name, 'SUBMITTED')});")
         for nulls in [*range(1, 2 ** len(of)), 0]:
-            given = ["NULL" if it in of and nulls >> of.index(it) & 1 else SECOND.get(it) or PLACES[kind] if it in of else NUMBERS[it] for kind, it in parts[1:]]
+            given = ["NULL" if it in of and nulls >> of.index(it) & 1 else SECOND.get(it) or places[kind] if it in of else NUMBERS[it] for kind, it in parts[1:]]
             lines.append(f"    {'NULLS' if nulls else 'TAKES'}({name}({', '.join(given)}));")
         lines.append("    end();")
     lines += [f"    is(\"each call that takes a pointer\", made, {len(calls(text))});", '    printf("%u passed, %u failed\\n", passed, failed);', "    return failed != 0;", "}", ""]
