@@ -3,6 +3,7 @@
 use crate::error::{refused, Error};
 use crate::raw;
 use crate::stats::{CoreStats, QueueStats};
+use crate::timers::Timers;
 use std::thread::JoinHandle;
 
 /// What the run of a job came to.
@@ -16,6 +17,16 @@ pub enum Step {
     Park,
 }
 
+impl Step {
+    fn number(self) -> u32 {
+        match self {
+            Step::Yield => raw::FX_STEP_YIELD,
+            Step::Done => raw::FX_STEP_DONE,
+            Step::Park => raw::FX_STEP_PARK,
+        }
+    }
+}
+
 /// What became of the job of a settled run.
 #[derive(Clone, Copy, PartialEq, Eq, Debug)]
 pub enum Settled {
@@ -26,6 +37,17 @@ pub enum Settled {
     Parked,
     /// It is done.
     Done,
+}
+
+impl Settled {
+    fn of(code: u32) -> Result<Settled, Error> {
+        match code {
+            raw::FX_OK => Ok(Settled::Queued),
+            raw::FX_PARKED => Ok(Settled::Parked),
+            raw::FX_DONE => Ok(Settled::Done),
+            code => Err(Error::of(code)),
+        }
+    }
 }
 
 /// How a queue or a core closes. Either way it takes no new job.
@@ -81,7 +103,7 @@ pub struct Core {
 /// What goes to a new thread by its start, and by nothing else.
 pub(crate) struct Starts<T>(T);
 
-// SAFETY: only `start_with` makes one, of a value whose parts but cores are `Send`, and hands it to a thread that it starts.
+// SAFETY: only `start_with` makes one, of a value whose parts but cores and timers are `Send`, and hands it to a thread that it starts.
 unsafe impl<T> Send for Starts<T> {}
 
 impl<T> Starts<T> {
@@ -90,10 +112,21 @@ impl<T> Starts<T> {
     }
 }
 
-/// Starts a thread with this value, whose parts but cores are `Send`: the callers in this crate see to that.
+/// Starts a thread with this value, whose parts but cores and timers are `Send`: the callers in this crate see to that.
 pub(crate) fn start_with<T: 'static, R: Send + 'static>(value: T, run: impl FnOnce(T) -> R + Send + 'static) -> JoinHandle<R> {
     let starts = Starts(value);
     std::thread::spawn(move || run(starts.value()))
+}
+
+/// Stands before the first call of the library.
+///
+/// # Panics
+///
+/// If the library that was linked has another version than these declarations.
+pub(crate) fn check_version() {
+    // SAFETY: it takes nothing.
+    let version = unsafe { raw::fx_version() };
+    assert_eq!(version, raw::FX_VERSION, "libfairexec.a has another version");
 }
 
 // In each call below the handle is that of an open core and of this `Core` alone, `&mut self` keeps a second call away, and every pointer is
@@ -114,9 +147,7 @@ impl Core {
     ///
     /// If the library that was linked has another version than these declarations.
     pub fn open(jobs: u32) -> Result<Core, Error> {
-        // SAFETY: it takes nothing.
-        let version = unsafe { raw::fx_version() };
-        assert_eq!(version, raw::FX_VERSION, "libfairexec.a has another version");
+        check_version();
         let mut handle = raw::fx_core { at: std::ptr::null_mut() };
         // SAFETY: the handle is empty, and lives through the call.
         refused(unsafe { raw::fx_open(&mut handle, jobs) })?;
@@ -201,17 +232,35 @@ impl Core {
     ///
     /// `NoJob`.
     pub fn settle(&mut self, step: Step, spent: u64) -> Result<Settled, Error> {
-        let number = match step {
-            Step::Yield => raw::FX_STEP_YIELD,
-            Step::Done => raw::FX_STEP_DONE,
-            Step::Park => raw::FX_STEP_PARK,
-        };
         // SAFETY: as above.
-        match unsafe { raw::fx_settle(&mut self.handle, number, spent) } {
-            raw::FX_OK => Ok(Settled::Queued),
-            raw::FX_PARKED => Ok(Settled::Parked),
-            raw::FX_DONE => Ok(Settled::Done),
-            code => Err(Error::of(code)),
+        Settled::of(unsafe { raw::fx_settle(&mut self.handle, step.number(), spent) })
+    }
+
+    /// The same, with the timers of this core. If the job parks, it sleeps until this time: [`wake_due`](Core::wake_due) wakes it then, unless it is
+    /// woken before. `None` and `u64::MAX` are no time. Each run of a job that may sleep is settled by this call, whatever its step: the timer of a
+    /// job that was woken before its time is gone then.
+    ///
+    /// # Errors
+    ///
+    /// `NoJob`. `Full` if the job parks and each timer is set for another one: the run isn't settled, and may be settled otherwise.
+    pub fn settle_until(&mut self, timers: &mut Timers, step: Step, spent: u64, time: Option<u64>) -> Result<Settled, Error> {
+        let time = time.unwrap_or(raw::FX_NEVER);
+        // SAFETY: as above; the other handle is that of open timers.
+        Settled::of(unsafe { raw::fx_settle_until(&mut self.handle, timers.handle(), step.number(), spent, time) })
+    }
+
+    /// Looks at the timer that is due next. If its time has come by `now`, its job is woken and the timer is gone. A job that isn't parked any more
+    /// isn't woken. Whether a timer was due: the host calls it until the answer is `false`.
+    ///
+    /// # Errors
+    ///
+    /// `Full`, `Spent`, as `wake`. Then the timer stays.
+    pub fn wake_due(&mut self, timers: &mut Timers, now: u64) -> Result<bool, Error> {
+        // SAFETY: as above.
+        match unsafe { raw::fx_wake_due(&mut self.handle, timers.handle(), now) } {
+            raw::FX_IDLE => Ok(false),
+            raw::FX_ABSENT => Ok(true),
+            code => refused(code).map(|()| true),
         }
     }
 

@@ -1,9 +1,12 @@
 //! A core that keeps what its jobs are.
 
+mod sleepers;
+
 use crate::clock::{wall_clock, Clock};
 use crate::core::{start_with, Core, Mode, Next, Settled, Step};
 use crate::error::Error;
 use crate::stats::{CoreStats, QueueStats};
+use crate::timers::{Sleepers, NEVER};
 use std::panic::{catch_unwind, AssertUnwindSafe};
 use std::thread::JoinHandle;
 
@@ -28,10 +31,15 @@ struct Inside<J> {
     // A job's number is its place here.
     places: Vec<Option<J>>,
     vacant: Vec<usize>,
+    // If its jobs may sleep.
+    sleepers: Option<Sleepers>,
 }
 
 impl<J> Inside<J> {
     fn submit(&mut self, queue: u32, job: J) -> Result<u64, (Error, J)> {
+        if self.is_full() {
+            return Err((self.refusal(), job));
+        }
         // If no place is vacant the core is full, and says so.
         let place = self.vacant.last().copied().unwrap_or(0);
         let order = match self.core.submit_numbered(queue, place as u64) {
@@ -58,6 +66,8 @@ struct Running<'a, J> {
     clock: Clock,
     began: u64,
     step: Step,
+    // Until then the job sleeps if it parks.
+    until: u64,
     is_settled: bool,
 }
 
@@ -69,7 +79,7 @@ impl<J> Running<'_, J> {
         }
         // A clock that panics here is charged as little as may be: nothing leaves the core with a job that nobody runs.
         let spent = catch_unwind(AssertUnwindSafe(|| (self.clock)().saturating_sub(self.began))).unwrap_or(0);
-        let settled = self.inside.core.settle(self.step, spent);
+        let settled = self.inside.settle(self.step, spent, self.until);
         debug_assert!(settled.is_ok());
         match self.step {
             Step::Yield | Step::Park => self.inside.places[self.place] = self.job.take(),
@@ -88,6 +98,9 @@ impl<J> Drop for Running<'_, J> {
 /// What a running job may do with its core.
 pub struct Cx<'a, J> {
     inside: &'a mut Inside<J>,
+    clock: Clock,
+    // Until then the job sleeps if it parks.
+    until: u64,
 }
 
 impl<J> Cx<'_, J> {
@@ -186,6 +199,7 @@ impl<J> House<J> {
                 core,
                 places: (0..room).map(|_| None).collect(),
                 vacant: (0..room).rev().collect(),
+                sleepers: None,
             },
             clock,
         })
@@ -199,9 +213,9 @@ impl<J> House<J> {
         start_with(self, run)
     }
 
-    /// What a job may do between two turns as well.
+    /// What a job may do between two turns as well. Nobody sleeps by it then.
     pub fn cx(&mut self) -> Cx<'_, J> {
-        Cx { inside: &mut self.inside }
+        Cx { inside: &mut self.inside, clock: self.clock, until: NEVER }
     }
 
     /// See `Cx::submit`.
@@ -281,7 +295,8 @@ impl<J> House<J> {
         self.inside.core.stats_of(queue)
     }
 
-    /// Runs the next job once. A panic of `run` goes on after the job was settled as done and dropped.
+    /// Wakes the jobs that sleep and whose time has come, and runs the next job once. A panic of `run` goes on after the job was settled as done and
+    /// dropped.
     ///
     /// # Errors
     ///
@@ -290,6 +305,7 @@ impl<J> House<J> {
     where
         R: FnOnce(&mut J, &mut Cx<'_, J>) -> Step,
     {
+        self.inside.wake_due(self.clock)?;
         let place = match self.inside.core.next_job()? {
             Next::Start(place) | Next::Resume(place) => place as usize,
             Next::Back(place) => return Ok(Turn::Back(self.inside.vacate(place as usize))),
@@ -303,11 +319,13 @@ impl<J> House<J> {
             clock: self.clock,
             began: u64::MAX,
             step: Step::Done,
+            until: NEVER,
             is_settled: false,
         };
         running.began = (running.clock)();
         if let Some(job) = &mut running.job {
-            running.step = run(job, &mut Cx { inside: running.inside });
+            let mut cx = Cx { inside: running.inside, clock: running.clock, until: NEVER };
+            (running.step, running.until) = (run(job, &mut cx), cx.until);
         }
         match running.step {
             Step::Yield | Step::Park => Ok(match running.settle() {

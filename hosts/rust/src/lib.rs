@@ -19,6 +19,7 @@
 //! - [`Core`]: a core whose jobs are numbers.
 //! - [`House`]: a core that keeps its jobs, which are of any type; [`Job`] is a closure.
 //! - [`Tasks`]: a house whose jobs are futures.
+//! - [`Timers`]: jobs that sleep until a time. A house has them by [`House::open_timers`], and a linked core by [`linked::Core::open_timers`].
 //! - [`linked`]: cores on threads of their own, with links between them, and an outside actor.
 
 mod clock;
@@ -29,6 +30,7 @@ pub mod linked;
 pub mod raw;
 mod stats;
 mod tasks;
+mod timers;
 
 pub use crate::clock::{wall_clock, Clock};
 pub use crate::core::{Core, Mode, Next, Settled, Step};
@@ -36,3 +38,4 @@ pub use error::Error;
 pub use stats::{CoreStats, QueueStats};
 pub use house::{Cx, House, Job, Turn};
 pub use tasks::{again, Tasks};
+pub use timers::Timers;

@@ -23,6 +23,7 @@
 //! - What becomes of notes, [`Journal`] says. Without it a house lives for as many notes as its journals have room for.
 //! - A core that has nothing to do sleeps, or waits by the host's own means: [`Core::wait_by`], [`Core::set_bell`].
 //! - Any thread reads the counts of a core by [`Stats`]. A core that is dropped before its end hands back its jobs.
+//! - A job sleeps until a time by its [`Cx`], once its core has timers: [`Core::open_timers`].
 //! - [`Task`] is a job that is a future: [`spawn`] starts one on any core, and [`spawn_local`] one that isn't `Send` on its own.
 
 mod actor;
@@ -40,6 +41,7 @@ mod notes;
 mod outside;
 mod runs;
 mod seat;
+mod sleepers;
 mod submissions;
 mod tasks;
 mod waiters;

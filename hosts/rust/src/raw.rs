@@ -47,6 +47,8 @@ pub const FX_STEP_PARK: u32 = 2;
 pub const FX_MODE_FINISH: u32 = 0;
 pub const FX_MODE_RETURN: u32 = 1;
 
+pub const FX_NEVER: u64 = u64::MAX;
+
 pub const FX_KIND_DONE: u32 = 0;
 pub const FX_KIND_BACK: u32 = 1;
 pub const FX_KIND_ANSWER: u32 = 2;
@@ -109,6 +111,11 @@ pub struct fx_house {
 
 #[repr(C)]
 pub struct fx_seat {
+    pub at: *mut c_void,
+}
+
+#[repr(C)]
+pub struct fx_timers {
     pub at: *mut c_void,
 }
 
@@ -210,4 +217,11 @@ extern "C" {
     pub fn fx_seat_shows(seat: *mut fx_seat) -> u32;
     pub fn fx_seat_stats(seat: *mut fx_seat, stats: *mut fx_core_stats) -> u32;
     pub fn fx_seat_stats_of_queue(seat: *mut fx_seat, queue: u32, stats: *mut fx_queue_stats) -> u32;
+    pub fn fx_timers_open(timers: *mut fx_timers, jobs: u32) -> u32;
+    pub fn fx_timers_free(timers: *mut fx_timers) -> u32;
+    pub fn fx_next_time(timers: *mut fx_timers, time: *mut u64) -> u32;
+    pub fn fx_settle_until(core: *mut fx_core, timers: *mut fx_timers, step: u32, spent: u64, time: u64) -> u32;
+    pub fn fx_seat_settle_until(seat: *mut fx_seat, timers: *mut fx_timers, step: u32, answer: u64, spent: u64, time: u64) -> u32;
+    pub fn fx_wake_due(core: *mut fx_core, timers: *mut fx_timers, now: u64) -> u32;
+    pub fn fx_seat_wake_due(seat: *mut fx_seat, timers: *mut fx_timers, now: u64) -> u32;
 }

@@ -48,6 +48,9 @@ struct Task {
 }
 
 /// A house whose jobs are futures. Each poll of a task is a job of one run, and its queue is charged for it.
+///
+/// A task that waits is no job, so no timer of a house can wake it: a future that waits for a time has its waker called, as by another thread. The crate
+/// `fairexec-rt` has futures that sleep.
 pub struct Tasks {
     house: House<usize>,
     tasks: Vec<Option<Task>>,

@@ -4,6 +4,7 @@ use super::fresh::Fresh;
 use super::lanes::Lanes;
 use super::names::{Answer, Name, Outcome, Reason};
 use super::seat::{Seat, Told};
+use super::sleepers::Sleepers;
 use crate::error::Error;
 use std::collections::VecDeque;
 use std::ops::{Deref, DerefMut};
@@ -91,6 +92,8 @@ pub(super) struct Actor<J> {
     misses: bool,
     // Of a core: what it delivered.
     pub(super) fresh: Fresh,
+    // If its jobs may sleep. It stands behind the seat.
+    pub(super) sleepers: Option<Sleepers>,
 }
 
 /// An actor during the calls that one thread makes on its seat.
@@ -123,7 +126,7 @@ impl<J> Actor<J> {
         let none = |to| Sent { vacant: (0..room).collect(), kept: keeps(to), pending: 0, ready: 0, is_used: false, loose: VecDeque::new() };
         let sent = (0..lanes.cores()).map(none).collect();
         let fresh = Fresh::new(lanes.cores() + 1);
-        Actor { seat, number, lanes, sent, undelivered: 0, misses: false, fresh }
+        Actor { seat, number, lanes, sent, undelivered: 0, misses: false, fresh, sleepers: None }
     }
 
     /// Each call below is made by an actor that was entered.
@@ -172,6 +175,12 @@ impl<J> Actor<J> {
         self.undelivered += u32::from(name.to == self.number);
         self.lanes.ring(name.to);
         Ticket { name, house: self.lanes.house(), place }
+    }
+
+    /// The core submitted an order to itself, for whose outcome nobody asks.
+    pub(super) fn sent_to_itself(&mut self) {
+        self.sent[self.number as usize].pending += 1;
+        self.undelivered += 1;
     }
 
     /// Whether the link from an actor to this core may show an order. That from itself shows what wasn't delivered.

@@ -3,7 +3,7 @@
 use super::actor::{Actor, Ticket};
 use super::board::{Shows, Stats};
 use super::cx::Cx;
-use super::lanes::{Bell, Ringer, LONGEST_SLEEP};
+use super::lanes::{Bell, Ringer};
 use super::names::{Name, Outcome, Step, Turn};
 use super::runs::{hand_back, turn, turns, MOST};
 use super::submissions::submissions;
@@ -68,7 +68,7 @@ impl Drop for Leaving {
 pub struct Core<J> {
     pub(super) actor: Actor<J>,
     // None is the wall's clock.
-    clock: Option<Clock>,
+    pub(super) clock: Option<Clock>,
     // A round runs jobs for so many nanoseconds.
     longest: u64,
     // It may be closed: it was when it was asked last, or took in something since.
@@ -133,7 +133,8 @@ impl<J> Core<J> {
 
     /// Delivers one order of each actor, and doesn't look at the links of actors that never submitted to this core. If the core is closed, it shuts
     /// the gates of the others first, and its own once no actor's order shows and no job is inside, since its jobs may still have to be woken.
-    /// Whether anything happened. Who sleeps and was answered by this is rung for by a turn that finds no work, or by some further deliveries.
+    /// Before all that it wakes the jobs that sleep and whose time has come. Whether anything happened. An actor that sleeps and was answered by this
+    /// is rung for by a turn that finds no work, or by some further deliveries.
     ///
     /// # Errors
     ///
@@ -146,13 +147,13 @@ impl<J> Core<J> {
     fn deliver_with(&mut self, needs_own_gate: bool, most: u32) -> Result<bool, Error> {
         let mut actor = self.actor.enter();
         let (own, cores) = (actor.number, actor.lanes.cores());
-        let mut did = false;
+        let mut did = actor.wake_due(self.clock)?;
         actor.ring_for_answers(false);
         let mut may_shut_own = self.may_be_closed && !needs_own_gate;
         if self.may_be_closed {
             match actor.shut((0..=cores).filter(|sender| *sender != own)) {
                 Err(Error::Open) => (self.may_be_closed, may_shut_own) = (false, false),
-                told => did = told?,
+                told => did |= told?,
             }
         }
         for sender in 0..=cores {
@@ -174,8 +175,9 @@ impl<J> Core<J> {
         Ok(did)
     }
 
-    /// One round: it delivers what the links show, runs jobs for 5 µs (see `set_round_time`) or as long as one run takes, and collects. Whether
-    /// anything happened. If a round has several runs, each is measured from the end of the one before, so the time between them counts too.
+    /// One round: it wakes the jobs whose time has come, delivers what the links show, runs jobs for 5 µs (see `set_round_time`) or as long as one run
+    /// takes, and collects. Whether anything happened. If a round has several runs, each is measured from the end of the one before, so the time
+    /// between them counts too.
     ///
     /// # Errors
     ///
@@ -222,10 +224,11 @@ impl<J> Core<J> {
         Ok(())
     }
 
-    /// Sleeps until another actor submits to this core or gives it an outcome, for 10 ms at most.
+    /// Sleeps until another actor submits to this core or gives it an outcome, or a timer is due, for 10 ms at most.
     pub fn sleep(&mut self) {
         self.rest();
-        self.actor.enter().sleep(LONGEST_SLEEP);
+        let longest = self.longest_sleep();
+        self.actor.enter().sleep(longest);
     }
 
     /// Who has something for this core while it waits by [`wait_by`](Core::wait_by) calls `rings`, as by the write of an eventfd. A ring is kept
@@ -240,13 +243,14 @@ impl<J> Core<J> {
     }
 
     /// Waits by the host's own means, such as `epoll`: calls `wait` once, with how long it may wait at most. That is no time if a link shows
-    /// something, a waker was called, or `looks` tells that the host has something to do for this core. Who gives the host more to do puts it
-    /// where `looks` finds it, and rings then.
+    /// something, a waker was called, or `looks` tells that the host has something to do for this core. Nor is it longer than until a timer is due. Who
+    /// gives the host more to do puts it where `looks` finds it, and rings then.
     pub fn wait_by<T>(&mut self, looks: impl FnOnce() -> bool, wait: impl FnOnce(Duration) -> T) -> T {
         self.rest();
+        let longest = self.longest_sleep();
         let mut entered = self.actor.enter();
         let Actor { seat, number, lanes, .. } = &mut *entered;
-        lanes.wait_by(*number, || seat.shows() || looks(), wait)
+        lanes.wait_by(*number, longest, || seat.shows() || looks(), wait)
     }
 
     /// Whether a link shows something that this core hasn't taken: an order to it, or an outcome for it.

@@ -6,6 +6,7 @@ use super::lanes::Lanes;
 use super::notes::{Form, Journal};
 use super::outside::Outside;
 use super::seat::Seat;
+use crate::core::check_version;
 use crate::error::{refused, Error};
 use crate::raw;
 use std::marker::PhantomData;
@@ -101,9 +102,7 @@ impl<J> House<J> {
     ///
     /// If the library that was linked has another version than these declarations.
     pub fn open(config: &Config) -> Result<Opened<J>, Error> {
-        // SAFETY: it takes nothing.
-        let version = unsafe { raw::fx_version() };
-        assert_eq!(version, raw::FX_VERSION, "libfairexec.a has another version");
+        check_version();
         let Config { cores, places, burst, notes, journal, form } = *config;
         let asked = raw::fx_config { size: size_of::<raw::fx_config>() as u32, cores, places, burst, notes };
         let mut handle = Handle(raw::fx_house { at: std::ptr::null_mut() });

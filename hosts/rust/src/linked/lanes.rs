@@ -260,7 +260,7 @@ impl<J> Lanes<J> {
         self.bells[core as usize].has_left.load(Ordering::SeqCst)
     }
 
-    /// Calls `wait` with how long it may wait: no time if a waker was called, the seat shows something or `looks` finds something to do.
+    /// Calls `wait` with how long it may wait, so long at most: no time if a waker was called, the seat shows something or `looks` finds something to do.
     ///
     /// Flag, look, sleep. The sleeper sets its flag, then looks, then waits. Who has something for it puts that where the sleeper looks, then
     /// reads the flag, and rings if it is set. All four are sequentially consistent, so they have one order. If the flag was set before it was
@@ -268,11 +268,11 @@ impl<J> Lanes<J> {
     /// the flag was read before it was set, so what was put there stands before the look, which finds it. Either way nothing is slept over.
     ///
     /// That a link shows at once what was put there is no clause, so a wait isn't longer than `LONGEST_SLEEP`.
-    pub(super) fn wait_by<T>(&self, actor: u32, looks: impl FnOnce() -> bool, wait: impl FnOnce(Duration) -> T) -> T {
+    pub(super) fn wait_by<T>(&self, actor: u32, longest: Duration, looks: impl FnOnce() -> bool, wait: impl FnOnce(Duration) -> T) -> T {
         let bell = &self.bells[actor as usize];
         bell.sleeps.store(true, Ordering::SeqCst);
         let is_idle = lock(&bell.woken).is_empty() && !looks();
-        let told = wait(if is_idle { LONGEST_SLEEP } else { Duration::ZERO });
+        let told = wait(if is_idle { longest.min(LONGEST_SLEEP) } else { Duration::ZERO });
         bell.sleeps.store(false, Ordering::SeqCst);
         told
     }

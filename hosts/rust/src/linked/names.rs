@@ -64,6 +64,18 @@ pub enum Step {
     Done(u64),
 }
 
+impl Step {
+    /// Its number, and the answer.
+    #[inline]
+    pub(super) fn numbers(self) -> (u32, u64) {
+        match self {
+            Step::Yield => (raw::FX_STEP_YIELD, 0),
+            Step::Park => (raw::FX_STEP_PARK, 0),
+            Step::Done(answer) => (raw::FX_STEP_DONE, answer),
+        }
+    }
+}
+
 /// What a turn came to.
 ///
 /// ```

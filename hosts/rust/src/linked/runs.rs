@@ -8,6 +8,7 @@ use super::seat::{Next, Settled};
 use crate::clock::{now, Clock};
 use crate::core::Mode;
 use crate::error::Error;
+use crate::timers::NEVER;
 use std::panic::{catch_unwind, AssertUnwindSafe};
 
 /// A round delivers so many orders of an actor at most, and runs so many jobs.
@@ -22,6 +23,8 @@ struct Running<'a, J> {
     began: u64,
     ended: u64,
     step: Step,
+    // Until then the job sleeps if it parks.
+    until: u64,
     settled: Option<Settled>,
 }
 
@@ -39,7 +42,7 @@ impl<J> Running<'_, J> {
             Step::Done(_) => unsafe { self.actor.lanes.take_done(from, to, self.place) },
             Step::Yield | Step::Park => None,
         };
-        self.settled = self.actor.seat.settle(self.step, spent).ok();
+        self.settled = self.actor.settle(self.step, spent, self.until).ok();
         debug_assert!(self.settled.is_some());
         if self.settled == Some(Settled::Done) && from != to {
             self.actor.lanes.ring(from);
@@ -82,12 +85,13 @@ where
             return Ok((Turn::Idle, None));
         }
     };
-    let mut running = Running { actor, name, place, clock, began: u64::MAX, ended: 0, step: Step::Done(0), settled: None };
+    let mut running = Running { actor, name, place, clock, began: u64::MAX, ended: 0, step: Step::Done(0), until: NEVER, settled: None };
     running.began = since.unwrap_or_else(|| now(clock));
     // SAFETY: the library told this run, so the place is this core's until the run is settled, and the job is used before that. What a job may do
     // uses other places: those of its own submissions.
     if let Some(job) = unsafe { running.actor.lanes.standing(name.from, name.to, place) } {
-        running.step = run(job, &mut Cx::new(running.actor, name, queue));
+        let mut cx = Cx::new(running.actor, name, queue, clock);
+        (running.step, running.until) = (run(job, &mut cx), cx.until());
     }
     running.settle();
     let turn = match running.settled {

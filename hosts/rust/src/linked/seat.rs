@@ -25,6 +25,18 @@ pub(super) enum Settled {
     Done,
 }
 
+impl Settled {
+    #[inline]
+    pub(super) fn of(code: u32) -> Result<Settled, Error> {
+        match code {
+            raw::FX_OK => Ok(Settled::Queued),
+            raw::FX_PARKED => Ok(Settled::Parked),
+            raw::FX_DONE => Ok(Settled::Done),
+            code => Err(Error::of(code)),
+        }
+    }
+}
+
 /// What became of a submission, with the host's number of a job.
 pub(super) enum Told {
     Done(u64),
@@ -48,7 +60,7 @@ const AGAIN: u32 = 16;
 
 /// A seat that was taken. It is freed as it is dropped.
 pub(super) struct Seat {
-    handle: raw::fx_seat,
+    pub(super) handle: raw::fx_seat,
     // What becomes of notes, and the newest of those that were forgotten.
     journal: Journal,
     newest: Newest,
@@ -134,7 +146,7 @@ impl Seat {
 
     /// A call that makes notes.
     #[inline]
-    fn call(&mut self, mut call: impl FnMut(&mut raw::fx_seat) -> u32) -> u32 {
+    pub(super) fn call(&mut self, mut call: impl FnMut(&mut raw::fx_seat) -> u32) -> u32 {
         self.left -= 1;
         if self.left == 0 {
             self.look();
@@ -249,18 +261,9 @@ impl Seat {
 
     #[inline]
     pub(super) fn settle(&mut self, step: Step, spent: u64) -> Result<Settled, Error> {
-        let (step, answer) = match step {
-            Step::Yield => (raw::FX_STEP_YIELD, 0),
-            Step::Park => (raw::FX_STEP_PARK, 0),
-            Step::Done(answer) => (raw::FX_STEP_DONE, answer),
-        };
+        let (step, answer) = step.numbers();
         // SAFETY: as above.
-        match unsafe { raw::fx_seat_settle(&mut self.handle, step, answer, spent) } {
-            raw::FX_OK => Ok(Settled::Queued),
-            raw::FX_PARKED => Ok(Settled::Parked),
-            raw::FX_DONE => Ok(Settled::Done),
-            code => Err(Error::of(code)),
-        }
+        Settled::of(unsafe { raw::fx_seat_settle(&mut self.handle, step, answer, spent) })
     }
 
     /// Whether there was an order.

@@ -17,6 +17,9 @@ use std::task::{Context, Poll, Wake, Waker};
 
 /// A job that is a future. A poll is a run. A task that waits is parked, and its waker, which may be called on any thread, sends a wake.
 ///
+/// It has no timer. What wakes it is the waker that each part of the future was polled with, and a timer of the core knows the job alone. The crate
+/// `fairexec-rt` has futures that sleep.
+///
 /// ```
 /// use fairexec::linked::{yield_now, Config, House, Outcome, Task};
 /// use fairexec::Mode;
