@@ -26,7 +26,7 @@ impl Hosted {
 
     /// Settles the run of the job that is out. If it parks, its job sleeps until this time.
     fn settle_asleep(&mut self, sleepers: &mut Sleepers, number: u32, spent: u64, time: u64) -> Code
-        ensures { SettlesUntil (step_of number) spent time self.old sleepers.old result self.new sleepers.new }
+        ensures { SettlesUntil (step_of number) (record { spent = spent; until = time }) self.old sleepers.old result self.new sleepers.new }
     {
         let Some(step) = step_numbered(number) else {
             return Code::BadNumber;
@@ -66,7 +66,7 @@ impl Hosted {
         spent: u64,
         time: u64,
     ) -> Code
-        ensures { OnSleepers timers.old (self.new ≡ self.old) result timers.new (λ before code after. SettlesUntil (step_of number) spent time self.old before code self.new after) }
+        ensures { OnSleepers timers.old (self.new ≡ self.old) result timers.new (λ before code after. SettlesUntil (step_of number) (record { spent = spent; until = time }) self.old before code self.new after) }
     {
         match timers {
             Member::Sleepers(sleepers) => self.settle_asleep(sleepers, number, spent, time),

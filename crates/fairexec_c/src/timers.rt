@@ -83,7 +83,7 @@ pub extern "C" fn fx_settle_until(
     time: u64,
 ) -> u32
     ensures core { OnCore core.old.value core.new.value result (λ old told new.
-        OnTimers timers.old.value (new ≡ old) told timers.new.value (λ before code after. SettlesUntil (step_of step) spent time old before code new after)) }
+        OnTimers timers.old.value (new ≡ old) told timers.new.value (λ before code after. SettlesUntil (step_of step) (record { spent = spent; until = time }) old before code new after)) }
     ensures empty { core.old.value ≡ None → timers.new.value ≡ timers.old.value }
 {
     let Some(mut hosted) = handle::take(alloc, core) else {
@@ -103,7 +103,7 @@ fn settle_alone(
     spent: u64,
     time: u64,
 ) -> Code
-    ensures { OnTimers timers.old.value (hosted.new ≡ hosted.old) result timers.new.value (λ before code after. SettlesUntil (step_of step) spent time hosted.old before code hosted.new after) }
+    ensures { OnTimers timers.old.value (hosted.new ≡ hosted.old) result timers.new.value (λ before code after. SettlesUntil (step_of step) (record { spent = spent; until = time }) hosted.old before code hosted.new after) }
 {
     let Some(mut member) = take(alloc, timers) else {
         return Code::Empty;
@@ -157,7 +157,7 @@ pub extern "C" fn fx_seat_settle_until(
     time: u64,
 ) -> u32
     ensures seat { OnCore seat.old.value seat.new.value result (λ old told new.
-        OnBoth old timers.old.value told new timers.new.value (λ at before code gets after. sleepers.SettlesUntil (turns.step_of step answer) spent time at before code gets after)) }
+        OnBoth old timers.old.value told new timers.new.value (λ at before code gets after. sleepers.SettlesUntil (turns.step_of step answer) (record { spent = spent; until = time }) at before code gets after)) }
     ensures empty { seat.old.value ≡ None → timers.new.value ≡ timers.old.value }
 {
     let Some(mut core) = take(alloc, seat) else {
@@ -178,7 +178,7 @@ fn settle_in_house(
     spent: u64,
     time: u64,
 ) -> Code
-    ensures { OnBoth core.old timers.old.value result core.new timers.new.value (λ at before code gets after. sleepers.SettlesUntil (turns.step_of step answer) spent time at before code gets after) }
+    ensures { OnBoth core.old timers.old.value result core.new timers.new.value (λ at before code gets after. sleepers.SettlesUntil (turns.step_of step answer) (record { spent = spent; until = time }) at before code gets after) }
 {
     let Some(mut member) = take(alloc, timers) else {
         return Code::Empty;

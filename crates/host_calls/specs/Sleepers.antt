@@ -88,8 +88,13 @@ WakesItselfTold name old told new = Tells (λ answer. WakesItself name old answe
 abbrev pub WakesDueTold : ℕ → HostedView → Timers → Code → HostedView → Timers → Type 0
 WakesDueTold = WakesDue (λ (view : HostedView). view.recorded.core.queues) WakesItselfTold
 
+-- how long a run took, and until when its job sleeps if it parks
+pub record RunTimes : Type 0 where
+  pub spent : ℕ
+  pub until : ℕ
+
 -- the run of the job that is out is settled; a number that is no step comes first
-abbrev pub SettlesUntil : Option (Step ℕ) → ℕ → ℕ → HostedView → Timers → Code → HostedView → Timers → Type 0
-SettlesUntil None spent time old timers told new after = (told ≡ code.BadNumber) × (new ≡ old) × (after ≡ timers)
-SettlesUntil (Some step) spent time old timers told new after =
-    SettlesNamed (λ before code behind. SettlesTold before (Some step) spent code behind) (name_out old.recorded.core.out) (sleep_of step time) old timers told new after
+abbrev pub SettlesUntil : Option (Step ℕ) → RunTimes → HostedView → Timers → Code → HostedView → Timers → Type 0
+SettlesUntil None times old timers told new after = (told ≡ code.BadNumber) × (new ≡ old) × (after ≡ timers)
+SettlesUntil (Some step) times old timers told new after =
+    SettlesNamed (λ before code behind. SettlesTold before (Some step) times.spent code behind) (name_out old.recorded.core.out) (sleep_of step times.until) old timers told new after

@@ -82,7 +82,7 @@ impl Member {
         time: u64,
     ) -> Code
         ensures { OnCore self.old (timers.new ≡ timers.old) result self.new (λ old told new.
-            OnSleepers timers.old (new ≡ old) told timers.new (λ before code after. SettlesUntil (step_of step answer) spent time old before code new after)) }
+            OnSleepers timers.old (new ≡ old) told timers.new (λ before code after. SettlesUntil (step_of step answer) (record { spent = spent; until = time }) old before code new after)) }
     {
         match self {
             Member::Core(core) => match timers {

@@ -130,7 +130,7 @@ impl Sleepers {
         spent: u64,
         time: u64,
     ) -> Code
-        ensures { SettlesUntil (step_of number answer) spent time core.old self.old result core.new self.new }
+        ensures { SettlesUntil (step_of number answer) (record { spent = spent; until = time }) core.old self.old result core.new self.new }
     {
         let Some(step) = step_numbered(number, answer) else {
             return Code::BadNumber;
