@@ -129,9 +129,9 @@ impl Builder {
         self
     }
 
-    /// [`yield_if_needed`](crate::yield_if_needed) yields, in the queue that was named last, after so much time. Calls that came together yield then,
-    /// too. At first it is 10 µs. A short slice of a background queue is what keeps the latency of the others low: a task that becomes ready waits for
-    /// the run that goes on.
+    /// [`yield_if_needed`](crate::yield_if_needed) yields, in the queue that was named last, after so much time. Tasks and calls of the queue that run
+    /// one behind the other let other queues run then, too. At first it is 10 µs. A short slice of a background queue is what keeps the latency of the
+    /// others low: a task that becomes ready waits for the run that goes on.
     ///
     /// # Panics
     ///

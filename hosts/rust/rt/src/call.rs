@@ -1,13 +1,11 @@
 //! Calls from one core to another.
 
-use crate::local::here;
+use crate::local::{here, wake_together, Local};
 use crate::shared::{lock, Queue};
-use crate::task::start_now;
-use futures_lite::future::FutureExt;
 use std::fmt;
-use std::future::{poll_fn, Future};
-use std::panic::AssertUnwindSafe;
-use std::pin::{pin, Pin};
+use std::future::Future;
+use std::panic::{catch_unwind, AssertUnwindSafe};
+use std::pin::Pin;
 use std::sync::atomic::{AtomicBool, Ordering};
 use std::sync::{Arc, Mutex};
 use std::task::{Context, Poll, Waker};
@@ -88,7 +86,7 @@ impl<T> Slot<T> {
             (answer.caller.take(), answer.callee.take())
         };
         if let Some(caller) = caller {
-            caller.wake();
+            wake_together(caller);
         }
     }
 
@@ -173,8 +171,65 @@ impl<T> Drop for Call<T> {
     }
 }
 
+/// A call: its function, then the future that this makes, until that has ended or nobody wants the answer.
+struct Work<M, F: Future> {
+    // It is dropped before the slot tells that it was.
+    step: Step<M, F>,
+    slot: Slot<F::Output>,
+}
+
+enum Step<M, F> {
+    Makes(M),
+    Waits(F),
+    Ended,
+}
+
+impl<M: FnOnce() -> F, F: Future> Step<M, F> {
+    /// Polls the future. It is made before, if that wasn't done.
+    ///
+    /// # Safety
+    ///
+    /// The step isn't moved from now on.
+    unsafe fn poll(&mut self, cx: &mut Context<'_>) -> Poll<F::Output> {
+        if let Step::Makes(_) = self {
+            if let Step::Makes(make) = std::mem::replace(self, Step::Ended) {
+                *self = Step::Waits(make());
+            }
+        }
+        match self {
+            // SAFETY: as the caller says, and a future is dropped where it stands.
+            Step::Waits(future) => unsafe { Pin::new_unchecked(future) }.poll(cx),
+            Step::Makes(_) | Step::Ended => Poll::Pending,
+        }
+    }
+}
+
+impl<M: FnOnce() -> F, F: Future> Future for Work<M, F> {
+    type Output = ();
+
+    fn poll(self: Pin<&mut Self>, cx: &mut Context<'_>) -> Poll<()> {
+        // SAFETY: nothing here moves the future.
+        let Work { step, slot } = unsafe { self.get_unchecked_mut() };
+        if !slot.is_given_up() {
+            // SAFETY: it is pinned.
+            match catch_unwind(AssertUnwindSafe(|| unsafe { step.poll(cx) })) {
+                Ok(Poll::Pending) if !slot.is_given_up_or_wakes(cx) => return Poll::Pending,
+                Ok(Poll::Pending) => {}
+                Ok(Poll::Ready(value)) => slot.put(Ok(value)),
+                Err(_) => slot.put(Err(CallError::Panicked)),
+            }
+        }
+        *step = Step::Ended;
+        Poll::Ready(())
+    }
+}
+
 /// A call on its way: it is started in a queue of the core that it comes to.
-pub(crate) struct Start(Box<dyn FnOnce(u32) + Send>);
+pub(crate) struct Start(Pin<Box<dyn Future<Output = ()>>>);
+
+// SAFETY: it is a `Work` that nobody has polled: `start` takes the `Start` apart. So it has the function and the slot of the answer, both of which are
+// `Send` by the bounds of `new`. The future, which needn't be `Send`, is made by the first poll.
+unsafe impl Send for Start {}
 
 impl Start {
     pub(crate) fn new<F, T>(make: impl FnOnce() -> F + Send + 'static) -> (Start, Call<T>)
@@ -183,30 +238,12 @@ impl Start {
         T: Send + 'static,
     {
         let (slot, call) = Slot::new();
-        (Start(Box::new(move |queue| start_now(queue, answer(slot, make)))), call)
+        (Start(Box::pin(Work { step: Step::Makes(make), slot })), call)
     }
 
     /// Starts it on this core, in this queue, whose run it is.
-    pub(crate) fn start(self, queue: u32) {
-        (self.0)(queue);
-    }
-}
-
-async fn answer<F: Future>(slot: Slot<F::Output>, make: impl FnOnce() -> F) {
-    let mut future = pin!(AssertUnwindSafe(async move { make().await }).catch_unwind());
-    let told = poll_fn(|cx| {
-        if slot.is_given_up() {
-            return Poll::Ready(None);
-        }
-        match future.as_mut().poll(cx) {
-            Poll::Ready(told) => Poll::Ready(Some(told)),
-            Poll::Pending if slot.is_given_up_or_wakes(cx) => Poll::Ready(None),
-            Poll::Pending => Poll::Pending,
-        }
-    })
-    .await;
-    if let Some(told) = told {
-        slot.tell(told.map_err(|_| CallError::Panicked));
+    pub(crate) fn start(self, local: &Local, queue: u32) {
+        local.start_now(queue, self.0);
     }
 }
 

@@ -52,34 +52,34 @@ fn run(local: &Local, job: &mut Job, cx: &mut Cx<'_, Job>, own: &mut Own, setup:
     let queue = cx.queue();
     local.begin(queue);
     own.runs.begin();
-    let step = match job {
-        Job::Task(slot) => {
-            *slot = slot.take().and_then(|turn| local.poll(turn));
-            // One that yields leaves if others of its queue have no place, and stands behind them.
-            if let Some(turn) = slot.take_if(|_| local.waiting(queue) > 2 * own.room(queue) as usize) {
-                local.hand_in(queue, turn);
+    let is_over = match job {
+        Job::Tasks => {
+            let is_over = local.run_ready(queue, || tell_if_slow(local, queue, setup));
+            if is_over {
+                own.end(queue);
             }
-            if slot.is_some() {
-                Step::Yield
-            } else {
-                own.end(cx.name().number, queue);
-                Step::Done(0)
-            }
+            is_over
         }
         Job::Calls(calls) => {
             // Before the caller can see that one ended.
             local.tell_busy();
-            if local.begin_calls(queue, calls) {
-                Step::Done(0)
-            } else {
-                Step::Yield
-            }
+            let is_over = local.begin_calls(queue, calls);
+            tell_if_slow(local, queue, setup);
+            is_over
         }
     };
+    if is_over {
+        Step::Done(0)
+    } else {
+        Step::Yield
+    }
+}
+
+/// Tells of a task or of calls whose run ends now, if it was slow.
+fn tell_if_slow(local: &Local, queue: u32, setup: &Setup) {
     if setup.slow_poll.is_some() {
         tell_slow(local, queue, setup);
     }
-    step
 }
 
 #[cold]
@@ -93,7 +93,7 @@ fn tell_slow(local: &Local, queue: u32, setup: &Setup) {
 
 impl<'a> Driver<'a> {
     pub(crate) fn new(local: &'a Local, core: &'a mut Core<Job>, setup: &'a Setup) -> Driver<'a> {
-        let own = Own::new(local.ready.len(), local.shared.places);
+        let own = Own::new(local.ready.len());
         Driver { local, core, setup, own, tells: 0, is_behind: true, writes: 0, is_unwritten: false }
     }
 
@@ -190,8 +190,8 @@ impl<'a> Driver<'a> {
     /// Waits for an event, a timer, or a ring. What comes before the ring can be seen is found by the look: `wait_by` has the argument. If it finds
     /// something, the reactor is asked if it `asks`.
     ///
-    /// Behind a step that left nothing to do, and behind one that did nothing, the core has no task that could run, since each that became ready was
-    /// submitted before the round, and no room for what is to be sent. So what may come is mail, a link that shows something, and the end.
+    /// Behind a step that left nothing to do, and behind one that did nothing, the core has no task that could run, since a run of those that became ready
+    /// was submitted before the round, and no room for what is to be sent. So what may come is mail, a link that shows something, and the end.
     fn sleep(&mut self, now: u64, has_told: bool, asks: bool) -> Result<(), Error> {
         let local = self.local;
         let (port, ending) = (&local.shared.ports[local.number as usize], &local.shared.ending);
@@ -202,24 +202,24 @@ impl<'a> Driver<'a> {
         Ok(())
     }
 
-    /// Hands in the tasks that can go on.
+    /// Hands in a run of the tasks that can go on, for each queue that has some and no such run inside.
     fn submit_ready(&mut self) -> Result<bool, Error> {
         let mut did = false;
         for (queue, ready) in (0..).zip(&self.local.ready) {
-            while self.own.room(queue) > 0 {
-                let Some(turn) = ready.borrow_mut().pop_front() else { break };
-                match self.core.submit(self.local.number, queue, Job::Task(Some(turn))) {
-                    Ok(ticket) => self.own.add(ticket, queue),
-                    Err((fairexec::Error::Full, Job::Task(Some(turn)))) => {
-                        ready.borrow_mut().push_front(turn);
-                        return Ok(did);
-                    }
-                    // The core is closing, and its tasks are dropped.
-                    Err((fairexec::Error::Closed, _)) => {}
-                    Err((error, _)) => return Err(error.into()),
-                }
-                did = true;
+            if ready.borrow().is_empty() || !self.own.is_out(queue) {
+                continue;
             }
+            match self.core.submit(self.local.number, queue, Job::Tasks) {
+                Ok(ticket) => self.own.add(ticket, queue),
+                Err((fairexec::Error::Full, _)) => return Ok(did),
+                // The core is closing, and its tasks are dropped.
+                Err((fairexec::Error::Closed, _)) => {
+                    let all = ready.take();
+                    drop(all);
+                }
+                Err((error, _)) => return Err(error.into()),
+            }
+            did = true;
         }
         Ok(did)
     }

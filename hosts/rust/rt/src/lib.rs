@@ -37,6 +37,7 @@ mod call;
 pub mod chan;
 mod drive;
 mod error;
+mod first;
 pub mod fs;
 mod journal;
 mod local;

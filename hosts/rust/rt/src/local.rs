@@ -1,6 +1,7 @@
 //! What the thread of a core has: its tasks, timers and reactor, and what goes out to other cores.
 
 use crate::call::{Slot, Start};
+use crate::first::First;
 use crate::reactor::Reactor;
 use crate::shared::{Mail, Queue, Shared};
 use crate::task::Turn;
@@ -16,8 +17,8 @@ use std::thread::{self, ThreadId};
 
 /// A job of the library.
 pub(crate) enum Job {
-    /// A task of the core that it is submitted to. `None` while it runs.
-    Task(Option<Turn>),
+    /// A run of the tasks of its queue that can go on, on the core that submitted it. A queue has one at most inside.
+    Tasks,
     /// Calls for one queue. They stand among those of the queue once this has run.
     Calls(Calls),
 }
@@ -102,7 +103,7 @@ pub(crate) struct Local {
     pub(crate) timers: Timers,
     /// Tasks that haven't ended.
     pub(crate) alive: RefCell<Slab<Waker>>,
-    /// Tasks that can go on and aren't in the core yet, by their queue.
+    /// Tasks that can go on, by their queue.
     pub(crate) ready: Vec<RefCell<VecDeque<Turn>>>,
     /// The task that is polled.
     running: Cell<usize>,
@@ -114,8 +115,15 @@ pub(crate) struct Local {
     /// By the core.
     pub(crate) outbox: Vec<RefCell<VecDeque<Sending>>>,
     pub(crate) sent: Vec<RefCell<Sent>>,
+    /// Callers on other cores that were answered in the run of calls that goes on, by their core. They go there together.
+    pub(crate) answered: Vec<RefCell<Vec<Mail>>>,
+    // Whether such a run goes on, and whether who is woken was answered.
+    begins_calls: Cell<bool>,
+    pub(crate) is_answer: Cell<bool>,
     // By the queue.
     begins: Vec<RefCell<Begins>>,
+    // None while it is used.
+    pub(crate) first: Cell<Option<First>>,
     // Room for mail.
     mail: RefCell<Vec<Mail>>,
     /// Who awaits a stop.
@@ -142,6 +150,15 @@ pub(crate) fn with_here<R>(call: impl FnOnce(&Local) -> R) -> Option<R> {
     HERE.try_with(|it| it.get().map(call)).ok().flatten()
 }
 
+/// Wakes who waits for an answer. If it is told in a run of calls, a caller on another core is told behind that run, with all that this answers.
+pub(crate) fn wake_together(caller: Waker) {
+    let outer = with_here(|it| it.is_answer.replace(it.begins_calls.get()));
+    caller.wake();
+    if let Some(outer) = outer {
+        with_here(|it| it.is_answer.set(outer));
+    }
+}
+
 /// Makes this thread that of a core for as long as the call goes on.
 pub(crate) fn on_core<R>(local: Local, call: impl FnOnce(&Local) -> R) -> R {
     HERE.with(|it| call(it.get_or_init(|| local)))
@@ -165,7 +182,11 @@ impl Local {
             slice: Cell::new(0),
             outbox: (0..cores).map(|_| RefCell::default()).collect(),
             sent: (0..cores).map(|_| RefCell::new(sent())).collect(),
+            answered: (0..cores).map(|_| RefCell::default()).collect(),
+            begins_calls: Cell::new(false),
+            is_answer: Cell::new(false),
             begins: (0..queues).map(|_| RefCell::default()).collect(),
+            first: Cell::default(),
             mail: RefCell::default(),
             stopping: RefCell::default(),
             is_quiet: Cell::new(false),
@@ -213,8 +234,9 @@ impl Local {
             waiting.pop_front()
         };
         let has_all = || begins.borrow().begun >= end;
+        self.begins_calls.set(true);
         while !has_all() {
-            next().into_iter().for_each(|it| it.start(queue));
+            next().into_iter().for_each(|it| it.start(self, queue));
             if has_all() {
                 break;
             }
@@ -225,7 +247,33 @@ impl Local {
             self.began.set(now);
         }
         self.began.set(began);
+        self.begins_calls.set(false);
+        for (port, answered) in self.shared.ports.iter().zip(&self.answered) {
+            port.leave_all(&mut answered.borrow_mut());
+        }
         has_all()
+    }
+
+    /// Polls the tasks of a queue that can go on, in their order, until one yields or the slice of the queue is over. `tells` is called behind each. Whether
+    /// none is left.
+    pub(crate) fn run_ready(&self, queue: u32, tells: impl Fn()) -> bool {
+        let (ready, began) = (&self.ready[queue as usize], self.began.get());
+        loop {
+            let next = ready.borrow_mut().pop_front();
+            let Some(turn) = next else { return true };
+            let again = self.poll(turn);
+            tells();
+            let yields = again.is_some();
+            again.into_iter().for_each(|it| self.hand_in(queue, it));
+            if ready.borrow().is_empty() {
+                return true;
+            }
+            let now = wall_clock();
+            if yields || now.saturating_sub(began) >= self.slice.get() {
+                return false;
+            }
+            self.began.set(now);
+        }
     }
 
     /// A task was woken.
@@ -281,7 +329,7 @@ impl Local {
                     if !self.has_closed.get() {
                         self.tell_busy();
                         // It waits for its turn in its queue as any task.
-                        crate::task::spawn_local(Queue(queue), async move { start.start(queue) }).detach();
+                        crate::task::spawn_local(Queue(queue), async move { here(|it| start.start(it, queue)) }).detach();
                     }
                 }
             }
@@ -329,11 +377,6 @@ impl Local {
             drop(all);
         }
         self.timers.clear();
-    }
-
-    /// Tasks of a queue that can go on and aren't in the core.
-    pub(crate) fn waiting(&self, queue: u32) -> usize {
-        self.ready[queue as usize].borrow().len()
     }
 
     pub(crate) fn has_some_ready(&self) -> bool {

@@ -1,73 +1,48 @@
-//! The tasks of a core that are inside it: each of their runs is a submission of the core to itself.
+//! The runs of a core's tasks. Each is a submission of the core to itself, and polls tasks of one queue that can go on.
 
 use crate::local::Job;
 use crate::Error;
 use fairexec::linked::{Core, Ticket};
 use fairexec::wall_clock;
 use std::cell::Cell;
-use std::collections::VecDeque;
 use std::time::Duration;
 
-/// The core's submissions to itself: each is a run of a task. Their numbers follow each other.
+/// The core's submissions to itself.
 pub(crate) struct Own {
-    // From the number `first` on. None is no run of a task, or its outcome is known.
-    tickets: VecDeque<Option<Ticket>>,
-    first: u64,
-    // Numbers of runs that ended, whose outcomes aren't redeemed yet.
-    ended: Vec<u64>,
-    // By the queue, how many tasks it has inside.
-    inside: Vec<u32>,
-    // So many may be: none is kept out by another queue's.
-    most: u32,
+    // By the queue, the run of its tasks that is inside.
+    inside: Vec<Option<Ticket>>,
+    // Runs that ended, and whose outcomes aren't redeemed yet.
+    ended: Vec<Ticket>,
     /// Runs of the last round, those of calls counted too.
     pub(crate) runs: Runs,
 }
 
+/// Redeems a run. False if its outcome isn't there yet.
+fn redeem(core: &mut Core<Job>, ticket: &Ticket) -> Result<bool, Error> {
+    match core.redeem(ticket) {
+        Err(fairexec::Error::Pending) => Ok(false),
+        // One that came back has nothing to drop: its tasks stand with the core.
+        told => Ok(told.map(|_| true)?),
+    }
+}
+
 impl Own {
-    pub(crate) fn new(queues: usize, places: u32) -> Own {
-        let most = (places / (queues as u32 + 1)).max(1);
-        Own { tickets: VecDeque::new(), first: 1, ended: Vec::new(), inside: vec![0; queues], most, runs: Runs::default() }
+    pub(crate) fn new(queues: usize) -> Own {
+        Own { inside: (0..queues).map(|_| None).collect(), ended: Vec::new(), runs: Runs::default() }
     }
 
-    /// How many more tasks of a queue may come inside.
-    pub(crate) fn room(&self, queue: u32) -> u32 {
-        self.most - self.inside[queue as usize]
-    }
-
-    /// A run ended, and its task is inside no more.
-    pub(crate) fn end(&mut self, number: u64, queue: u32) {
-        self.ended.push(number);
-        self.inside[queue as usize] -= 1;
+    /// Whether no run of a queue's tasks is inside.
+    pub(crate) fn is_out(&self, queue: u32) -> bool {
+        self.inside[queue as usize].is_none()
     }
 
     pub(crate) fn add(&mut self, ticket: Ticket, queue: u32) {
-        let number = ticket.name().number;
-        if self.tickets.is_empty() {
-            self.first = number;
-        }
-        // Numbers between belong to orders.
-        while self.first + (self.tickets.len() as u64) < number {
-            self.tickets.push_back(None);
-        }
-        self.tickets.push_back(Some(ticket));
-        self.inside[queue as usize] += 1;
+        self.inside[queue as usize] = Some(ticket);
     }
 
-    /// Redeems one run. False if its outcome isn't there yet.
-    fn redeem(&mut self, core: &mut Core<Job>, number: u64) -> Result<bool, Error> {
-        let at = (number - self.first) as usize;
-        let Some(Some(ticket)) = self.tickets.get(at) else { return Ok(true) };
-        match core.redeem(ticket) {
-            Err(fairexec::Error::Pending) => return Ok(false),
-            // A job that came back is a task that is dropped.
-            told => drop(told?),
-        }
-        self.tickets[at] = None;
-        while let Some(None) = self.tickets.front() {
-            self.tickets.pop_front();
-            self.first += 1;
-        }
-        Ok(true)
+    /// The run of a queue's tasks ended, and is inside no more.
+    pub(crate) fn end(&mut self, queue: u32) {
+        self.ended.extend(self.inside[queue as usize].take());
     }
 
     /// Whether the outcome of each run that ended was redeemed.
@@ -79,9 +54,8 @@ impl Own {
     pub(crate) fn redeem_ended(&mut self, core: &mut Core<Job>) -> Result<(), Error> {
         let mut at = 0;
         while at < self.ended.len() {
-            let number = self.ended[at];
-            if self.redeem(core, number)? {
-                self.ended.swap_remove(at);
+            if redeem(core, &self.ended[at])? {
+                drop(self.ended.swap_remove(at));
             } else {
                 at += 1;
             }
@@ -91,12 +65,14 @@ impl Own {
 
     /// Redeems all whose outcomes are there.
     pub(crate) fn redeem_all(&mut self, core: &mut Core<Job>) -> Result<(), Error> {
-        for number in self.first..self.first + self.tickets.len() as u64 {
-            if number >= self.first {
-                self.redeem(core, number)?;
+        for inside in &mut self.inside {
+            if let Some(ticket) = inside {
+                if redeem(core, ticket)? {
+                    *inside = None;
+                }
             }
         }
-        Ok(())
+        self.redeem_ended(core)
     }
 }
 

@@ -134,6 +134,20 @@ impl Port {
         self.ring();
     }
 
+    /// The same for all of this, if there is some.
+    pub(crate) fn leave_all(&self, mails: &mut Vec<Mail>) {
+        if mails.is_empty() {
+            return;
+        }
+        {
+            let mut all = lock(&self.mail);
+            let Some(all) = &mut *all else { return mails.clear() };
+            all.append(mails);
+            self.has_mail.store(true, Ordering::SeqCst);
+        }
+        self.ring();
+    }
+
     /// The core ends. Its mail is dropped, on its thread.
     pub(crate) fn close(&self) {
         let mail = lock(&self.mail).take();

@@ -11,7 +11,7 @@ use std::panic::AssertUnwindSafe;
 use std::pin::Pin;
 use std::sync::atomic::{AtomicBool, Ordering};
 use std::sync::{Arc, Mutex, PoisonError};
-use std::task::{Context, Poll};
+use std::task::{Context, Poll, Waker};
 use std::thread::{self, ThreadId};
 
 type Panic = Box<dyn Any + Send>;
@@ -195,6 +195,9 @@ impl Place {
         with_here(|it| {
             if Arc::ptr_eq(&it.home, home) {
                 it.take_woken(self.queue, turn.take().expect("it is taken once"));
+            } else if it.is_answer.get() && Arc::ptr_eq(&it.shared, &home.shared) {
+                let mail = turn.take().map(|turn| Mail::Woken(self.queue, turn));
+                it.answered[home.core as usize].borrow_mut().extend(mail);
             }
         });
         if let Some(turn) = turn {
@@ -254,11 +257,10 @@ pub fn spawn_local<T: 'static>(queue: Queue, future: impl Future<Output = T> + '
     })
 }
 
-/// Starts a task in the run that goes on. Its first poll is part of that.
-pub(crate) fn start_now(queue: u32, future: impl Future<Output = ()> + 'static) {
-    here(|it| {
-        let (turn, task) = make(it, queue, None, future);
-        task.detach();
-        it.run_within(queue, turn);
-    });
+/// A task that nobody asks for and that wasn't handed in yet, with its waker.
+pub(crate) fn detached(local: &Local, queue: u32, future: impl Future<Output = ()> + 'static) -> (Turn, Waker) {
+    let (turn, task) = make(local, queue, None, future);
+    task.detach();
+    let waker = local.alive.borrow()[turn.task].clone();
+    (turn, waker)
 }

@@ -1,9 +1,12 @@
 //! Calls between cores, and the end of all.
 
 use fairexec_rt::{fs, set_shares, sleep, spawn_local, stats, stop, stopping, submit, try_submit, yield_now, CallError, Executor, Journal, Queue};
+use std::future::poll_fn;
 use std::rc::Rc;
 use std::sync::atomic::{AtomicBool, AtomicU64, Ordering};
-use std::sync::{Arc, Mutex};
+use std::sync::{mpsc, Arc, Mutex};
+use std::task::{Context, Poll, Waker};
+use std::thread;
 use std::time::{Duration, Instant};
 
 const BACKGROUND: Queue = Queue::new(1);
@@ -70,6 +73,40 @@ fn a_call_that_panics_or_is_given_up_is_told() {
         })
         .unwrap();
     assert_eq!(ran.load(Ordering::SeqCst), 0);
+}
+
+#[test]
+fn a_call_that_keeps_the_waker_of_its_first_poll_is_woken() {
+    let (sender, receiver) = mpsc::channel::<(Arc<AtomicBool>, Waker)>();
+    let wakes = thread::spawn(move || {
+        for (number, (may_go, waker)) in receiver.into_iter().enumerate() {
+            // Mostly it comes beside the polls, and at times far behind them.
+            thread::sleep(Duration::from_micros(if number % 64 == 0 { 500 } else { 0 }));
+            may_go.store(true, Ordering::SeqCst);
+            waker.wake();
+        }
+    });
+    let call = |core: u32| {
+        let (may_go, mut sender) = (Arc::new(AtomicBool::new(false)), Some(sender.clone()));
+        let wait = move |cx: &mut Context<'_>| {
+            sender.take().into_iter().for_each(|it| it.send((Arc::clone(&may_go), cx.waker().clone())).unwrap());
+            may_go.load(Ordering::SeqCst).then_some(()).map_or(Poll::Pending, Poll::Ready)
+        };
+        submit(core, Queue::FIRST, || poll_fn(wait))
+    };
+    Executor::builder()
+        .cores(2)
+        .run(|here| {
+            let calls: Vec<_> = (0..4000).map(|_| call(1 - here.core())).collect();
+            async move {
+                for call in calls {
+                    call.await.unwrap();
+                }
+            }
+        })
+        .unwrap();
+    drop(sender);
+    wakes.join().unwrap();
 }
 
 #[test]

@@ -34,7 +34,8 @@ fn tasks_end_with_what_they_came_to() {
         .unwrap();
     assert!(report.is_sound());
     assert!(report.journal.unwrap().starts_with("journal 1\ncores 1 cap "));
-    assert!(report.cores[0].turns > 200);
+    // Each yield ends a turn.
+    assert!(report.cores[0].turns > 100);
 }
 
 #[test]

@@ -17,7 +17,7 @@ use fairexec_rt::net::{Reads, TcpListener, TcpStream};
 use fairexec_rt::{spawn_local, stats, submit, yield_if_needed, Call, Executor, Here, JoinHandle, Journal, Pin, Queue};
 use futures_lite::AsyncWriteExt;
 use resp::{number, parse};
-use shard::{bulk, error, key_of, text, Answer, Key, Shard};
+use shard::{bulk, error, key_of, text, Answer, Key, Shard, NO_NUMBER};
 use std::{cell::RefCell, io, io::Write, iter::once, path::PathBuf, time::Duration};
 
 const REQUESTS: Queue = Queue::FIRST;
@@ -33,29 +33,19 @@ fn shard<R>(call: impl FnOnce(&mut Shard) -> R) -> R {
     SHARD.with_borrow_mut(call)
 }
 
-/// A part of a command, on this core or another one.
-enum Part {
+/// A command that was begun, on this core or another one, or its parts, and whether these have one answer: the sum of their numbers, or that of the first.
+enum Does {
     Here(Answer),
     There(Call<Answer>),
-}
-
-/// A command that was begun: its first part, the others, and whether they have one answer: the sum of their numbers, or that of the first.
-struct Does(Part, Vec<Part>, bool);
-
-fn now(answer: Answer) -> Does {
-    all(once(Part::Here(answer)), true)
-}
-
-fn all(mut parts: impl Iterator<Item = Part>, is_one: bool) -> Does {
-    Does(parts.next().expect("a command has a part"), parts.collect(), is_one)
+    All(Vec<Does>, bool),
 }
 
 /// Begins a part of a command on a core.
-fn on_core(here: &Here, core: u64, does: impl FnOnce(&mut Shard) -> Answer + Send + 'static) -> Part {
+fn on_core(here: &Here, core: u64, does: impl FnOnce(&mut Shard) -> Answer + Send + 'static) -> Does {
     if core == u64::from(here.core()) {
-        return Part::Here(shard(does));
+        return Does::Here(shard(does));
     }
-    Part::There(submit(core as u32, REQUESTS, || async {
+    Does::There(submit(core as u32, REQUESTS, || async {
         let answer = shard(does);
         log::safe().await;
         answer
@@ -68,7 +58,7 @@ fn core_of(here: &Here, hash: u64) -> u64 {
 }
 
 /// Begins a part of a command on the core of a key.
-fn on_key(here: &Here, key: &[u8], does: impl FnOnce(&mut Shard, Key) -> Answer + Send + 'static) -> Part {
+fn on_key(here: &Here, key: &[u8], does: impl FnOnce(&mut Shard, Key) -> Answer + Send + 'static) -> Does {
     let key = key_of(key);
     on_core(here, core_of(here, key.0), |it| does(it, key))
 }
@@ -82,41 +72,38 @@ fn info() -> Answer {
 }
 
 fn command(here: &Here, words: &[&[u8]]) -> Does {
-    let each = |keys: &[&[u8]], does: fn(&mut Shard, Key) -> Answer| all(keys.iter().map(|key| on_key(here, key, does)), true);
-    let on_all = |does: fn(&mut Shard) -> Answer| all((0..u64::from(here.cores())).map(|core| on_core(here, core, does)), true);
+    let each = |keys: &[&[u8]], does: fn(&mut Shard, Key) -> Answer| Does::All(keys.iter().map(|key| on_key(here, key, does)).collect(), true);
+    let on_all = |does: fn(&mut Shard) -> Answer| Does::All((0..u64::from(here.cores())).map(|core| on_core(here, core, does)).collect(), true);
     let name = words[0].to_ascii_uppercase();
     match (name.as_slice(), &words[1..]) {
-        (b"PING", []) => now(text(b"+PONG\r\n")),
-        (b"PING" | b"ECHO", [it]) => now(text(bulk(it))),
-        (b"GET", key @ [_]) => each(key, Shard::value),
+        (b"PING", []) => Does::Here(text(b"+PONG\r\n")),
+        (b"PING" | b"ECHO", [it]) => Does::Here(text(bulk(it))),
+        (b"GET", [key]) => on_key(here, key, Shard::value),
         (b"MGET", keys @ [_, ..]) => {
-            let count = Part::Here(text(format!("*{}\r\n", keys.len()).into_bytes()));
-            all(once(count).chain(keys.iter().map(|key| on_key(here, key, Shard::value))), false)
+            let count = Does::Here(text(format!("*{}\r\n", keys.len()).into_bytes()));
+            Does::All(once(count).chain(keys.iter().map(|key| on_key(here, key, Shard::value))).collect(), false)
         }
         (b"DEL", keys @ [_, ..]) => each(keys, Shard::delete),
         (b"EXISTS", keys @ [_, ..]) => each(keys, |it, key| Answer::Int(it.get(&key).is_some().into())),
-        (b"INCR", key @ [_]) => each(key, Shard::increase),
-        (b"TTL", key @ [_]) => each(key, Shard::left),
+        (b"INCR", [key]) => on_key(here, key, Shard::increase),
+        (b"TTL", [key]) => on_key(here, key, Shard::left),
         (b"DBSIZE", []) => on_all(|it| Answer::Int(it.entries.len() as i64)),
         (b"FLUSHALL", [] | [_]) => on_all(Shard::flush),
-        (b"SET", [key, value, options @ ..]) => set(here, key, value, options).unwrap_or_else(|| now(error("syntax error"))),
-        (b"MSET", pairs @ [_, ..]) if pairs.len() % 2 == 0 => all(pairs.chunks(2).map(|it| put(here, it[0], it[1], None, false)), true),
-        (b"EXPIRE", [key, seconds]) => match number(seconds) {
-            Some(seconds) => all(once(on_key(here, key, move |it, key| it.expire(key, seconds))), true),
-            None => now(error("value is not an integer or out of range")),
-        },
-        (b"SCAN", [cursor, options @ ..]) => scan(here, cursor, options).unwrap_or_else(|| now(error("invalid cursor"))),
-        (b"INFO", _) => now(info()),
-        (b"CONFIG", [get, name]) if get.eq_ignore_ascii_case(b"GET") => now(text([b"*2\r\n", bulk(name).as_slice(), &bulk(b"")].concat())),
-        (b"CLIENT", [_, ..]) | (b"QUIT", _) => now(text(b"+OK\r\n")),
+        (b"SET", [key, value, options @ ..]) => set(here, key, value, options).unwrap_or_else(|| Does::Here(error("syntax error"))),
+        (b"MSET", all @ [_, ..]) if all.len() % 2 == 0 => Does::All(all.chunks(2).map(|it| put(here, it[0], it[1], None, false)).collect(), true),
+        (b"EXPIRE", [key, it]) => number(it).map_or(Does::Here(error(NO_NUMBER)), |it| on_key(here, key, move |to, key| to.expire(key, it))),
+        (b"SCAN", [cursor, options @ ..]) => scan(here, cursor, options).unwrap_or_else(|| Does::Here(error("invalid cursor"))),
+        (b"INFO", _) => Does::Here(info()),
+        (b"CONFIG", [get, name]) if get.eq_ignore_ascii_case(b"GET") => Does::Here(text([b"*2\r\n", bulk(name).as_slice(), &bulk(b"")].concat())),
+        (b"CLIENT", [_, ..]) | (b"QUIT", _) => Does::Here(text(b"+OK\r\n")),
         (name, _) if COMMANDS.split(' ').any(|it| it.as_bytes() == name) => {
-            now(error(&format!("wrong number of arguments for '{}' command", name.to_ascii_lowercase().escape_ascii())))
+            Does::Here(error(&format!("wrong number of arguments for '{}' command", name.to_ascii_lowercase().escape_ascii())))
         }
-        (name, _) => now(error(&format!("unknown command '{}'", name[..name.len().min(64)].escape_ascii()))),
+        (name, _) => Does::Here(error(&format!("unknown command '{}'", name[..name.len().min(64)].escape_ascii()))),
     }
 }
 
-fn put(here: &Here, key: &[u8], value: &[u8], ttl: Option<u64>, is_new: bool) -> Part {
+fn put(here: &Here, key: &[u8], value: &[u8], ttl: Option<u64>, is_new: bool) -> Does {
     let value = value.to_vec();
     on_key(here, key, move |it, key| it.set(key, value, ttl, is_new))
 }
@@ -130,7 +117,7 @@ fn set(here: &Here, key: &[u8], value: &[u8], options: &[&[u8]]) -> Option<Does>
             _ => return None,
         }
     }
-    Some(all(once(put(here, key, value, ttl, is_new)), true))
+    Some(put(here, key, value, ttl, is_new))
 }
 
 /// A cursor is a hash, and 0 is the end.
@@ -139,63 +126,75 @@ fn scan(here: &Here, cursor: &[u8], options: &[&[u8]]) -> Option<Does> {
     let count = options.chunks(2).find(|it| it.len() == 2 && it[0].eq_ignore_ascii_case(b"COUNT")).map_or(Some(10), |it| number(it[1]))?;
     let (core, cores) = (core_of(here, cursor), u64::from(here.cores()));
     let next_core = if core + 1 < cores { ((core + 1) << 32).div_ceil(cores) << 32 } else { 0 };
-    Some(all(once(on_core(here, core, move |it| it.scan(cursor, count, next_core))), true))
+    Some(on_core(here, core, move |it| it.scan(cursor, count, next_core)))
 }
 
-/// Puts what the parts of a command came to behind what was answered before.
-async fn finish(Does(part, parts, is_one): Does, out: &mut Vec<u8>) -> io::Result<()> {
+/// Puts an answer behind what was answered before.
+fn tell(answer: Answer, out: &mut Vec<u8>) {
+    match answer {
+        Answer::Int(count) => _ = write!(out, ":{count}\r\n"),
+        Answer::Value(None) => out.extend_from_slice(b"$-1\r\n"),
+        Answer::Value(Some(it)) => {
+            _ = write!(out, "${}\r\n", it.len());
+            out.extend_from_slice(&it);
+            out.extend_from_slice(b"\r\n");
+        }
+        Answer::Text(text) => out.extend_from_slice(&text),
+    }
+}
+
+/// The same for the parts of a command.
+async fn tell_all(parts: Vec<Does>, is_one: bool, out: &mut Vec<u8>) -> io::Result<()> {
     let mut sum = None;
-    for (place, part) in once(part).chain(parts).enumerate() {
+    for (place, part) in parts.into_iter().enumerate() {
         let answer = match part {
-            Part::Here(answer) => answer,
-            Part::There(call) => call.await?,
+            Does::Here(answer) => answer,
+            Does::There(call) => call.await?,
+            Does::All(..) => unreachable!("a part has no parts"),
         };
         match answer {
             Answer::Int(count) => sum = Some(sum.unwrap_or(0) + count),
             _ if is_one && place > 0 => {}
-            Answer::Value(None) => out.extend_from_slice(b"$-1\r\n"),
-            Answer::Value(Some(it)) => {
-                write!(out, "${}\r\n", it.len())?;
-                out.extend_from_slice(&it);
-                out.extend_from_slice(b"\r\n");
-            }
-            Answer::Text(text) => out.extend_from_slice(&text),
+            answer => tell(answer, out),
         }
     }
-    sum.map_or(Ok(()), |it| write!(out, ":{it}\r\n"))
+    sum.into_iter().for_each(|it| tell(Answer::Int(it), out));
+    Ok(())
 }
 
-/// The commands that are there whole, begun in their order, how many bytes they have, and whether the connection ends.
-fn begin(here: &Here, input: &[u8]) -> (Vec<Does>, usize, bool) {
-    let (mut batch, mut rest, mut ends) = (Vec::new(), input, false);
+/// Begins the commands that are there whole, in their order. How many bytes they have, and whether the connection ends.
+fn begin(here: &Here, input: &[u8], batch: &mut Vec<Does>) -> (usize, bool) {
+    let (mut rest, mut ends) = (input, false);
     while batch.len() < BATCH && !ends {
         match parse(rest) {
             Ok(None) => break,
             Ok(Some((words, behind))) => {
-                rest = behind;
-                ends = words.first().is_some_and(|it| it.eq_ignore_ascii_case(b"QUIT"));
+                (rest, ends) = (behind, words.first().is_some_and(|it| it.eq_ignore_ascii_case(b"QUIT")));
                 batch.extend((!words.is_empty()).then(|| command(here, &words)));
             }
-            Err(text) => (ends, _) = (true, batch.push(now(error(text)))),
+            Err(text) => (ends, _) = (true, batch.push(Does::Here(error(text)))),
         }
     }
-    (batch, input.len() - rest.len(), ends)
+    (input.len() - rest.len(), ends)
 }
 
 async fn serve(here: Here, mut stream: TcpStream, idle: Option<Duration>) -> io::Result<()> {
-    let (mut reads, mut input, mut out) = (Reads::new(idle), Vec::new(), Vec::new());
+    let (mut reads, mut input, mut batch, mut out) = (Reads::new(idle), Vec::new(), Vec::new(), Vec::new());
     while reads.read(&stream, &mut input).await? {
         loop {
-            let (batch, taken, ends) = begin(&here, &input);
-            let is_idle = batch.is_empty() || taken == input.len();
+            let (taken, ends) = begin(&here, &input, &mut batch);
             input.drain(..taken);
-            for does in batch {
-                finish(does, &mut out).await?;
+            for does in batch.drain(..) {
+                match does {
+                    Does::Here(answer) => tell(answer, &mut out),
+                    Does::There(call) => tell(call.await?, &mut out),
+                    Does::All(parts, is_one) => tell_all(parts, is_one, &mut out).await?,
+                }
             }
             log::safe().await;
             stream.write_all(&out).await?;
             out.clear();
-            match (ends, is_idle) {
+            match (ends, taken == 0 || input.is_empty()) {
                 (true, _) => return Ok(()),
                 (_, true) => break,
                 _ => yield_if_needed().await,

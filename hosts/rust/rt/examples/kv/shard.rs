@@ -21,6 +21,7 @@ pub fn text(text: impl Into<Cow<'static, [u8]>>) -> Answer {
     Answer::Text(text.into())
 }
 
+pub const NO_NUMBER: &str = "value is not an integer or out of range";
 pub fn error(why: &str) -> Answer {
     text(format!("-ERR {why}\r\n").into_bytes())
 }
@@ -91,7 +92,7 @@ impl Shard {
 
     pub fn increase(&mut self, key: Key) -> Answer {
         let (count, expires) = self.get(&key).map_or((Some(0), 0), |it| (number::<i64>(&it.value), it.expires));
-        let Some(count) = count.and_then(|it| it.checked_add(1)) else { return error("value is not an integer or out of range") };
+        let Some(count) = count.and_then(|it| it.checked_add(1)) else { return error(NO_NUMBER) };
         self.put(key, count.to_string().into_bytes(), expires);
         Answer::Int(count)
     }
