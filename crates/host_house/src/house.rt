@@ -8,7 +8,8 @@ ghost use Rattle.host_house.specs.Houses.{AreGood, IsOpened, OpensHouse};
 use crate::outside::Outside;
 use base_words::{MOST_BURST, MOST_CAPACITY, MOST_CORES, MOST_NOTES};
 use host_core::{HostJob, Hosted};
-use link_ring::{Ends, open_all};
+use link_board::Spacing;
+use link_ring::{Ends, open_spaced};
 use std::alloc::{AllocError, Global};
 use std::marker::Model;
 
@@ -75,10 +76,11 @@ fn open_within(
     cap: u16,
     burst: u8,
     room: u32,
+    spacing: Spacing,
 ) -> Result<HostedHouse, AllocError>
     ensures { IfOk result (IsOpened cores cap burst room) }
 {
-    let Ok(mut all) = open_all::<HostJob>(alloc, cores, cap) else {
+    let Ok(mut all) = open_spaced::<HostJob>(alloc, cores, cap, spacing) else {
         return Err(AllocError);
     };
     let Some(last) = all.pop() else {
@@ -105,10 +107,41 @@ pub fn open_house(
 ) -> Result<HostedHouse, OpenError>
     ensures { OpensHouse cores cap burst room result }
 {
+    open_with(alloc, cores, cap, burst, room, Spacing::Apart)
+}
+
+/// Opens such a house in less memory. Its calls take longer if two threads make them.
+///
+/// # Errors
+///
+/// As `open_house`.
+pub fn open_dense(
+    alloc: Global,
+    cores: u8,
+    cap: u16,
+    burst: u8,
+    room: u32,
+) -> Result<HostedHouse, OpenError>
+    ensures { OpensHouse cores cap burst room result }
+{
+    open_with(alloc, cores, cap, burst, room, Spacing::Dense)
+}
+
+/// Opens a house if its numbers are within the limits.
+fn open_with(
+    alloc: Global,
+    cores: u8,
+    cap: u16,
+    burst: u8,
+    room: u32,
+    spacing: Spacing,
+) -> Result<HostedHouse, OpenError>
+    ensures { OpensHouse cores cap burst room result }
+{
     if !are_good(cores, cap, burst, room) {
         return Err(OpenError::BadConfig);
     }
-    match open_within(alloc, cores, cap, burst, room) {
+    match open_within(alloc, cores, cap, burst, room, spacing) {
         Ok(house) => Ok(house),
         Err(_) => Err(OpenError::Memory),
     }

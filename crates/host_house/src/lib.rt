@@ -5,5 +5,5 @@ pub mod house;
 pub mod outside;
 mod passing;
 
-pub use house::{HostedHouse, OpenError, open_house};
+pub use house::{HostedHouse, OpenError, open_dense, open_house};
 pub use outside::Outside;

@@ -14,4 +14,4 @@ pub use held::{Cell, Held};
 pub use opening::{compare, lay};
 pub use receiver::{close, give, next_order, shows_order};
 pub use sender::{is_open, next_outcome, offer, see_none, shows_outcome};
-pub use spacing::next_place;
+pub use spacing::{Spacing, next_place};

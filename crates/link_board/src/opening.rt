@@ -11,7 +11,7 @@ ghost use Rattle.link_board.specs.Seats.{IsReceiver, IsSender};
 use crate::board::{Board, GATE_ROW, Lines, Place, Terms};
 use crate::held::{Cell, Held};
 use crate::plays::{Compare, Halves};
-use crate::spacing::{cells_for, gap_of};
+use crate::spacing::{Spacing, cells_for, gap_of};
 use atomic_blocks::rows::{Link, Loose, Rows};
 use base_jobs::Task;
 use base_words::{ActorNo, CoreNo};
@@ -47,6 +47,7 @@ pub fn lay<J: Task>(
     to: CoreNo,
     base: u64,
     capacity: u16,
+    spacing: Spacing,
 ) -> Result<(Board<J>, Place<J>, Place<J>), AllocError>
     requires { base < 2 ^ 63 }
     ensures sender_at { IfOk result (λ laid. (laid.1.rows ≡ laid.0.lines.id) × (laid.1.heap ≡ laid.0.lines.heap)) }
@@ -59,7 +60,7 @@ pub fn lay<J: Task>(
 {
     let capacity = capacity as u64;
     let empty: Cell<J, J::Out> = MaybeTaken::bytes_of(Held::Empty);
-    let gap = gap_of(&empty);
+    let gap = gap_of(&empty, spacing);
     let len = cells_for(gap, capacity);
     let (gate, gate_row) = row_of::<J, J::Out>(&alloc, 1, 0)?;
     let Ok((cells, cell_row)) = row_of::<J, J::Out>(&alloc, len, 1) else {

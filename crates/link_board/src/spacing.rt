@@ -16,12 +16,25 @@ use std::mem::size_of_val;
 /// The bytes of a slot whose cell takes three lines of 64: before it stand a word and a link.
 const LARGE: usize = 176;
 
+/// Whether cells are kept apart.
+#[derive(Clone, Copy)]
+pub enum Spacing {
+    /// For two ends that may be on two threads.
+    Apart,
+    /// They lie side by side, for two ends on one thread.
+    Dense,
+}
+
 /// How many cells that are never used lie between two that are, if they hold such a value.
-pub(crate) fn gap_of<X>(held: &X) -> u64
-    ensures { result ≡ gap_for (capped (type_size X.row)) }
+pub(crate) fn gap_of<X>(held: &X, spacing: Spacing) -> u64
+    ensures gap { result ≡ gap_for spacing (capped (type_size X.row)) }
+    ensures few { result < 4 }
 {
     let bytes = size_of_val(held);
-    if bytes < LARGE { 3 } else { 1 }
+    match spacing {
+        Spacing::Dense => 0,
+        Spacing::Apart => if bytes < LARGE { 3 } else { 1 },
+    }
 }
 
 /// The place of the cell of an index.

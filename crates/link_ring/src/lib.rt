@@ -16,7 +16,7 @@ pub mod ring_out;
 pub use accounts::{Accounts, reunite};
 pub use ends::Ends;
 pub use link::{OpenError, RingLink};
-pub use opening::open_all;
+pub use opening::{open_all, open_spaced};
 pub use reunion::reunite_all;
 pub use ring_in::{Receiving, RingIn};
 pub use ring_out::{RingOut, Sending};

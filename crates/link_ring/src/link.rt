@@ -7,7 +7,7 @@ use crate::ring_in::RingIn;
 use crate::ring_out::RingOut;
 use base_jobs::Task;
 use base_words::{ActorNo, CoreNo};
-use link_board::lay;
+use link_board::{Spacing, lay};
 use link_ends::{InEnd, OutEnd};
 use std::alloc::Global;
 use std::sync::Arc;
@@ -63,7 +63,26 @@ impl RingLink {
         ensures inward { IfOk result (λ ends. ⟦<RingIn<J> as InEnd<J>>⟧.inward ends.1 ≡ inward_of (fresh from to capacity accepted)) }
         ensures link { IfOk result (λ ends. ends.1.link ≡ ends.0.link) }
     {
-        let Ok((board, seat, other)) = lay::<J>(alloc, from, to, accepted, capacity) else {
+        Self::open_spaced(alloc, from, to, capacity, accepted, Spacing::Apart)
+    }
+
+    /// The same, with cells as far apart as this says.
+    pub(crate) fn open_spaced<J: Task>(
+        alloc: Global,
+        from: ActorNo,
+        to: CoreNo,
+        capacity: u16,
+        accepted: u64,
+        spacing: Spacing,
+    ) -> Result<(RingOut<J>, RingIn<J>), OpenError>
+        requires { accepted < 2 ^ 63 }
+        ensures out { IfOk result (λ ends. ⟦<RingOut<J> as OutEnd<J>>⟧.out ends.0 ≡ out_of (fresh from to capacity accepted)) }
+        ensures credited { IfOk result (λ ends. ⟦<RingOut<J> as OutEnd<J>>⟧.credited ends.0 ≡ 0) }
+        ensures inward { IfOk result (λ ends. ⟦<RingIn<J> as InEnd<J>>⟧.inward ends.1 ≡ inward_of (fresh from to capacity accepted)) }
+        ensures link { IfOk result (λ ends. ends.1.link ≡ ends.0.link) }
+    {
+        let laid = lay::<J>(alloc, from, to, accepted, capacity, spacing);
+        let Ok((board, seat, other)) = laid else {
             return Err(OpenError::Memory);
         };
         let Ok(board) = Arc::new(alloc, board) else {

@@ -7,6 +7,7 @@ use crate::ends::{Ends, Unsealed};
 use crate::link::{OpenError, RingLink};
 use base_jobs::Task;
 use base_words::{ActorNo, CoreNo};
+use link_board::Spacing;
 use std::alloc::{AllocError, Global};
 
 // Opens the link from a sender to a core, and gives each of the two its end.
@@ -17,6 +18,7 @@ fn connect<J: Task>(
     cap: u16,
     sender: usize,
     core: usize,
+    spacing: Spacing,
 ) -> Result<(), AllocError>
     requires sender { sender ≤ cores }
     requires core { core < cores }
@@ -24,7 +26,8 @@ fn connect<J: Task>(
     ensures { OnOk result (IsOpening cores cap sender (core + 1) all.new.items) }
 {
     let (from, to) = (ActorNo(sender as u8), CoreNo(core as u8));
-    let Ok((out, inward)) = RingLink::open::<J>(alloc, from, to, cap) else {
+    let opened = RingLink::open_spaced::<J>(alloc, from, to, cap, 0, spacing);
+    let Ok((out, inward)) = opened else {
         return Err(AllocError);
     };
     all[sender].push_out(out)?;
@@ -39,13 +42,14 @@ fn connect_row<J: Task>(
     cores: u8,
     cap: u16,
     sender: usize,
+    spacing: Spacing,
 ) -> Result<(), AllocError>
     requires sender { sender ≤ cores }
     requires opening { IsOpening cores cap sender 0 all.old.items }
     ensures { OnOk result (IsOpening cores cap (sender + 1) 0 all.new.items) }
 {
     for core in 0..cores as usize {
-        connect(alloc, all, cores, cap, sender, core)?;
+        connect(alloc, all, cores, cap, sender, core, spacing)?;
     }
     Ok(())
 }
@@ -65,12 +69,17 @@ fn bare<J: Task>(alloc: Global, cores: u8, cap: u16) -> Result<Vec<Unsealed<J>>,
 }
 
 // Opens all links, row by row.
-fn open_rows<J: Task>(alloc: Global, cores: u8, cap: u16) -> Result<Vec<Unsealed<J>>, AllocError>
+fn open_rows<J: Task>(
+    alloc: Global,
+    cores: u8,
+    cap: u16,
+    spacing: Spacing,
+) -> Result<Vec<Unsealed<J>>, AllocError>
     ensures { IfOk result (λ all. IsOpening cores cap (cores + 1) 0 all.items) }
 {
     let mut all = bare::<J>(alloc, cores, cap)?;
     for sender in 0..cores as usize + 1 {
-        connect_row(alloc, &mut all, cores, cap, sender)?;
+        connect_row(alloc, &mut all, cores, cap, sender, spacing)?;
     }
     Ok(all)
 }
@@ -87,10 +96,15 @@ fn seal_all<J: Task>(alloc: Global, all: Vec<Unsealed<J>>) -> Result<Vec<Ends<J>
 }
 
 // Opens all links, and seals the ends of each actor.
-fn open_sealed<J: Task>(alloc: Global, cores: u8, cap: u16) -> Result<Vec<Ends<J>>, AllocError>
+fn open_sealed<J: Task>(
+    alloc: Global,
+    cores: u8,
+    cap: u16,
+    spacing: Spacing,
+) -> Result<Vec<Ends<J>>, AllocError>
     ensures { IfOk result (λ all. IsOpening cores cap (cores + 1) 0 all.items) }
 {
-    let all = open_rows::<J>(alloc, cores, cap)?;
+    let all = open_rows::<J>(alloc, cores, cap, spacing)?;
     seal_all(alloc, all)
 }
 
@@ -106,7 +120,24 @@ pub fn open_all<J: Task>(alloc: Global, cores: u8, cap: u16) -> Result<Vec<Ends<
     ensures grid { IfOk result (λ all. IsGrid cores all.items) }
     ensures fresh { IfOk result (λ all. AreAllFresh cores cap all.items) }
 {
-    match open_sealed::<J>(alloc, cores, cap) {
+    open_spaced(alloc, cores, cap, Spacing::Apart)
+}
+
+/// The same, with cells as far apart as this says.
+///
+/// # Errors
+///
+/// As `open_all`.
+pub fn open_spaced<J: Task>(
+    alloc: Global,
+    cores: u8,
+    cap: u16,
+    spacing: Spacing,
+) -> Result<Vec<Ends<J>>, OpenError>
+    ensures grid { IfOk result (λ all. IsGrid cores all.items) }
+    ensures fresh { IfOk result (λ all. AreAllFresh cores cap all.items) }
+{
+    match open_sealed::<J>(alloc, cores, cap, spacing) {
         Ok(all) => Ok(all),
         Err(_) => Err(OpenError::Memory),
     }
