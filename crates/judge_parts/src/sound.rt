@@ -12,8 +12,8 @@ use std::alloc::Global;
 use text_bytes::Source;
 use text_parts::parts::HouseNumbers;
 
-/// As many places for submissions as all links of a house may have together that is tried first: such a house takes some 50 MB.
-const FEW_PLACES: u32 = 1 << 17;
+/// As many places for submissions as all links of a house may have together that is tried first: such a house takes at most 64 MB.
+const FEW_PLACES: u32 = 190_000;
 
 /// How many submissions a link of a house may hold that does journals of this one again in little memory: its capacity, or fewer.
 pub fn few_places(house: HouseNumbers) -> u16

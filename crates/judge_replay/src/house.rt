@@ -16,7 +16,7 @@ use crate::laws::read_is_sound;
 use crate::outside::OutsideReplay;
 use base_words::{ActorNo, Note};
 use host_core::{HostJob, Hosted};
-use host_house::{HostedHouse, OpenError, open_house};
+use host_house::{HostedHouse, OpenError, open_dense};
 use link_ring::{Ends, reunite_all};
 use std::alloc::{AllocError, Global};
 use std::marker::Model;
@@ -116,7 +116,7 @@ impl Replay {
         let HostedHouse {
             cores: opened,
             outside,
-        } = open_house(alloc, cores, cap, burst, ROOM + u32::from(cap))?;
+        } = open_dense(alloc, cores, cap, burst, ROOM + u32::from(cap))?;
         let (Ok(made), Ok(sent)) = (unread(alloc, opened), Vec::from_elem(alloc, 0, SENDS)) else {
             return Err(OpenError::Memory);
         };
