@@ -29,6 +29,7 @@ pub mod Gated
 pub mod Serving
 pub mod Woken
 pub mod Due
+mod Silent
 pub mod Telling
 pub mod Fewer
 pub mod Heard

@@ -1,6 +1,8 @@
 -- A worker rings for the notes of its steps.
 use Rattle.run_worker.proofs.Names.{ap, AreRung, arith, BellsView, creations, drop, Entry, HasRung, is_opening, Journal, JournalView, length, List, no_shorter, refl, replicate, reverse, reverse-append, rung_along, rung_behind}
-use Rattle.run_worker.proofs.Names.{rung_for, ServedView, StaysLinked, subst, sym, true, ℕ, [], ◌+◌, ◌∙◌, ◌∷◌, ◌≡◌, ◌≤◌}
+use Rattle.run_worker.proofs.Names.{rung_for, ServedView, StaysLinked, subst, sym, true, ℕ, [], ◌+◌, ◌++◌, ◌∙◌, ◌∷◌, ◌≡◌, ◌≤◌}
+use Rattle.std.proofs.Math.Seq.{drop-append_seam}
+use Rattle.std.proofs.lemmas.List.{length-reverse}
 use Rattle.base_words.specs.declared.note.Note.TheVariants.{Created}
 use Rattle.run_worker.proofs.Openings.{creations_behind}
 
@@ -19,6 +21,17 @@ module _ {J T : Type 0} (old new : ServedView J T) (first journal : JournalView 
       let passed : length journal.passed ≡ length first.passed = ap length (ap (λ journal. journal.passed) is ∙ (stays.seat.passed ∙ sym (ap (λ journal. journal.passed) was))) in
       let notes : length first.notes ≡ length old.linked.recorded.journal.notes = ap (λ journal. length journal.notes) was in
       omega (arith, passed, kept, notes)
+
+  -- the notes behind those that were kept are the newer ones
+  pub since_newer : drop (length journal.passed + count) (reverse journal.notes) ≡ reverse stays.grows.0
+  since_newer =
+      let before = old.linked.recorded.journal.notes in
+      let newer = stays.grows.0 in
+      ap (λ place. drop place (reverse journal.notes)) since_start
+      ∙ (ap (λ journal. drop (length before) (reverse journal.notes)) is
+      ∙ (ap (λ notes. drop (length before) (reverse notes)) stays.grows.1
+      ∙ (ap (drop (length before)) (reverse-append newer before)
+      ∙ (ap (λ place. drop place (reverse before ++ reverse newer)) (sym (length-reverse before)) ∙ drop-append_seam (reverse before) (reverse newer)))))
 
   pub since_within : length journal.passed + count ≤ length journal.notes
   since_within =

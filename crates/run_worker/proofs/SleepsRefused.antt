@@ -4,6 +4,8 @@ use Rattle.run_worker.proofs.Names.{Sets, SetsSleep, Some, SparesOwn, suc, sym, 
 use Rattle.std.specs.Prelude.{false, slice_set, true, ◌++◌}
 use Rattle.core_queues.specs.View.{Parks, QueuesView, parked_of}
 use Rattle.core_timers.specs.Timers.{Has, IsDue, Timer, timer_at}
+use Rattle.base_words.specs.declared.note.Note.TheVariants.{Done, Park}
+use Rattle.run_worker.specs.Timing.{IsSilent}
 use Rattle.run_worker.specs.declared.waking.Due.TheVariants.{Sent, Nothing}
 
 -- one job sleeps until 5
@@ -79,6 +81,13 @@ sleeps_less queues sets = either sets.time sets.says sets.sets
     either : (time : ℕ) → Some 5 ≡ Some time → Sets (None ∷ []) sleeper (due_behind 10 time) (Some (record { name = sleeper; time = 12 }) ∷ []) ⊎ HasNoKey (None ∷ []) sleeper (Some (record { name = sleeper; time = 12 }) ∷ []) → ⊥
     either time says (inl set) = at set.key time (sym (ap value says)) (ap (λ timers. time_of (timer_at timers 0)) set.after)
     either time says (inr full) = let none : true ≡ false = ap (λ timers. is_set (timer_at timers 0)) full.same in cc
+
+-- a job that parks, and one that is done, as if nobody heard of it
+parks_silently : (name : JobId) (time : ℕ) → IsSilent {T = ℕ} (Park name time) → ⊥
+parks_silently name time silent = silent
+
+is_done_silently : (name : JobId) (time answer : ℕ) → IsSilent (Done name time answer) → ⊥
+is_done_silently name time answer silent = silent
 
 -- a timer that outlives its sleep
 outlives_its_sleep : LosesTimer sleeping sleeper sleeping → ⊥

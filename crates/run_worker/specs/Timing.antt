@@ -2,7 +2,7 @@
 use Rattle.std.specs.Prelude.{◌≡◌, ◌⊎◌, ℕ, ◌+◌, ◌-◌, ◌^◌, min, Option, Some, None, List, [], ◌∷◌, ◌++◌, reverse}
 use Rattle.base_words.specs.declared.names.JobId.{JobId}
 use Rattle.base_words.specs.declared.note.Note.{Note}
-use Rattle.base_words.specs.declared.note.Note.TheVariants.{Park, Resume, Returned}
+use Rattle.base_words.specs.declared.note.Note.TheVariants.{Park, Pick, Resume, Returned, Start, Turned, Yield}
 use Rattle.core_queues.specs.View.{QueuesView}
 use Rattle.core_queues.specs.Waking.{IsParkedAs}
 use Rattle.core_timers.specs.Timers.{Timers, Forgets, HasNoKey, IsVacant, LacksName, Sets}
@@ -21,6 +21,15 @@ due_behind reading time = min (reading + time) (2 ^ 64 - 1)
 -- a name has no timer any more
 abbrev pub LosesTimer : Timers → JobId → Timers → Type 0
 LosesTimer old name new = Forgets old name new ⊎ (LacksName old name × (new ≡ old))
+
+-- a note of a turn by which nobody is rung, and no job sleeps: a pick, the beginning of a poll, its yield, or the end of the turn
+abbrev pub IsSilent : {T : Type 0} → Note T → Type 0
+IsSilent (Pick queue vr) = Unit {0}
+IsSilent (Start name) = Unit {0}
+IsSilent (Resume name) = Unit {0}
+IsSilent (Yield name time) = Unit {0}
+IsSilent (Turned queue time) = Unit {0}
+IsSilent _ = ⊥
 
 module _ {J : Type 0} (sleeps : J → Option ℕ) where
   -- it says for how long the parked job of this name sleeps; if it says nothing, the job may not be parked

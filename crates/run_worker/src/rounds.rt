@@ -20,7 +20,7 @@ ghost use Rattle.run_worker.specs.Timing.{HearsTurn};
 ghost use Rattle.run_worker.specs.Turns.{TakesTurn};
 
 use crate::served::Served;
-use crate::sleeping::hear;
+use crate::sleeping::{hear, nobody_hears};
 use crate::stopwatch::Stopwatch;
 use actor_seat::{Bells, LastLook};
 use base_jobs::{Job, Task};
@@ -29,7 +29,7 @@ use run_config::{Clock, Gate};
 use std::alloc::Global;
 
 /// How many turns a worker makes at most before it looks at its links again.
-const MOST_TURNS: u32 = 16;
+const MOST_TURNS: u32 = 32;
 
 /// It looks again at once after polls that took so many nanoseconds together.
 const MOST_TIME: u64 = 2_000;
@@ -92,7 +92,7 @@ impl<J: Task<Out = u64>, C: Drop, G: Drop> Rounds<J, C, G> {
 }
 
 impl<J: Job + Task<Out = u64>, C: Clock + Drop, G: Gate + Drop> Rounds<J, C, G> {
-    /// Makes one turn, and sets the timers of the jobs that sleep behind it. Whether there was work.
+    /// Makes one turn, rings for its notes, and sets the timers of the jobs that sleep behind it. Whether there was work.
     fn take_turn(&mut self, local: &mut J::Local) -> bool
         requires rung { AreRung self.old.served self.old.bells }
         ensures steps { StepsServed (turn_most self.old.served) self.old.served result self.new.served }
@@ -106,15 +106,14 @@ impl<J: Job + Task<Out = u64>, C: Clock + Drop, G: Gate + Drop> Rounds<J, C, G> 
         let before = self.served.journal().kept_count();
         let turned = self
             .served
-            .take_turn(local, &mut self.watch, &mut self.gate, &mut self.bells);
-        let reading = self.watch.last();
+            .take_turn(local, &mut self.watch, &mut self.gate);
         let recorded = self.served.recorded();
-        hear(
-            recorded.core(),
-            &mut self.timers,
-            reading,
-            recorded.journal().since(before),
-        );
+        let notes = recorded.journal().since(before);
+        if nobody_hears(&self.timers, notes) {
+            return turned;
+        }
+        let (timers, bells) = (&mut self.timers, &mut self.bells);
+        hear(recorded.core(), timers, bells, self.watch.last(), notes);
         turned
     }
 

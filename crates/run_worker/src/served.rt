@@ -353,24 +353,19 @@ impl<J: Task<Out = u64>> Served<J> {
 
 impl<J: Job + Task<Out = u64>> Served<J> {
     /// Makes one turn. Whether there was work. A job that is polled may submit, redeem and detach as this core, and is lent what the jobs of the
-    /// core share. The gate is asked just before each poll, and the meter is told that the poll begins, and asked how long it took.
+    /// core share. The gate is asked just before each poll, and the meter is told that the poll begins, and asked how long it took. Nobody is
+    /// rung yet.
     pub(crate) fn take_turn<M: Meter, G: Gate>(
         &mut self,
         local: &mut J::Local,
         meter: &mut M,
         gate: &mut G,
-        bells: &mut Bells,
     ) -> bool
-        requires rung { AreRung self.old bells.old }
         ensures steps { StepsServed (turn_most self.old) self.old result self.new }
         ensures takes { TakesTurn J.meaning M.Tells G.Asked meter.old meter.new gate.old gate.new self.old result self.new }
-        ensures rung { AreRung self.new bells.new }
-        ensures names { bells.new.names ≡ bells.old.names }
     {
-        let before = self.journal().kept_count();
         self.look();
         let made = self.seat.turn(local, meter, gate);
-        ring_since(bells, self.seat.recorded().journal(), before);
         is_work(made)
     }
 }

@@ -1,19 +1,12 @@
-use Rattle.run_worker.proofs.Names.{ap, BellsView, is_turn, IsReady, length, MakesTurn, ServedView, stays_along, StaysLinked, StepsServed, subst, sym, turn_most, turn_view, ◌+◌, ◌∙◌, ◌≤◌}
+use Rattle.run_worker.proofs.Names.{ap, is_turn, IsReady, length, MakesTurn, ServedView, StepsServed, subst, sym, turn_most, turn_view, ◌+◌, ◌∙◌, ◌≤◌}
 use Rattle.run_worker.proofs.Alone.{knows_along}
 use Rattle.run_worker.proofs.Fewer.{most_along}
-use Rattle.run_worker.proofs.Rung.{since_rung, since_within}
 use Rattle.run_worker.proofs.Serving.{turned_served}
 use Rattle.run_worker.proofs.Spare.{turn_room}
 use Rattle.run_worker.proofs.Telling.{looked_steps}
 use Rattle.run_worker.proofs.TurnNotes.{turned_tells}
 use Rattle.run_worker.proofs.TurnRoom.{made_few}
-use Rattle.run_worker.proofs.served.Served.take_turn.Given.{Over}
 use Rattle.run_worker.proofs.served.Served.take_turn.Goals as goal
-use Rattle.run_worker.proofs.served.Served.take_turn.Goals.{After-turn-made}
-
--- the notes of the turn stand behind those that were kept before it
-stays : (g : Over) (c : After-turn-made g) → StaysLinked c.args.self.now.linked c.turn-made.new.self
-stays g c = stays_along _ _ _ c.look.ensures.stays (subst (λ view. StaysLinked view.linked c.turn-made.new.self) c.self.view_is c.turn-made.ensures.stays)
 
 pub turn-made-requires : goal.turn-made-requires
 turn-made-requires g c = record {
@@ -54,14 +47,3 @@ returns-clause-takes g c = record {
       c.self.view_is c.turn-made.ensures.makes;
   answer = c.is_work.ensures;
 }
-
-pub ring_since-requires : goal.ring_since-requires
-ring_since-requires g c =
-    since_within c.args.self.now (record { linked = c.turn-made.new.self; ending = c.self.inside.ending }) c.journal.result.now c.journal-2.result.now c.kept_count-before.result c.journal.ensures.journal
-    (c.journal-2.ensures ∙ ap (λ recorded. recorded.journal) c.recorded.ensures.same) c.kept_count-before.ensures.value (stays g (goal.at.ring_since-requires g c).After-turn-made)
-
-pub returns-clause-rung : goal.returns-clause-rung
-returns-clause-rung g c =
-    since_rung c.args.self.now (record { linked = c.turn-made.new.self; ending = c.self.inside.ending }) c.journal.result.now c.journal-2.result.now c.kept_count-before.result c.journal.ensures.journal
-    (c.journal-2.ensures ∙ ap (λ recorded. recorded.journal) c.recorded.ensures.same) c.kept_count-before.ensures.value (stays g (goal.at.returns-clause-rung g c).After-turn-made)
-    c.args.bells.now c.ring_since.new.bells c.requires.rung (ap (λ (bells : BellsView). bells.rings) c.ring_since.ensures)
