@@ -1,12 +1,16 @@
 -- What is judged behind one more note.
-use Rattle.std.proofs.Common.{◌≡◌, ℕ, Bool, true, false, ◌||◌, if◌then◌else◌, Option, None, Some, [], ◌∷◌, refl, sym, ap, ◌∙◌, subst}
+use Rattle.std.proofs.Common.{◌≡◌, ℕ, Bool, true, false, not, ◌||◌, if◌then◌else◌, Option, None, Some, [], ◌∷◌, refl, sym, ap, ◌∙◌, subst}
+use Rattle.std.proofs.lemmas.Bool.{true≢false}
 use Rattle.base_words.specs.Commands.{has_effect}
 use Rattle.base_words.specs.Journal.{EachNote, Journal}
 use Rattle.base_words.specs.Lawful.{MayStand}
 use Rattle.base_words.specs.declared.note.Note.{Note}
 use Rattle.base_words.specs.declared.note.Note.TheVariants.{Answered}
-use Rattle.judge_sink.specs.Judged.{IsApart, has_shut, is_half, is_judged, is_shut, judged_of, without_awaited}
-use Rattle.judge_sink.specs.Judging.{IsAlong, IsJudge, MayWait, ReadsOn, with_next}
+use Rattle.judge_sink.specs.declared.links.Links.{Links}
+use Rattle.judge_sink.specs.Links.{KnowsLinks}
+use Rattle.judge_sink.specs.Judged.{IsAllowed, is_half, without_awaited}
+use Rattle.judge_sink.specs.Judging.{IsAlong, IsJudge, IsRead, MayWait, Steps, with_next}
+use Rattle.judge_sink.specs.Replayed.{IsReplayed, OpensFirst, is_replayed, replayed}
 use Rattle.judge_sink.specs.Twins.{TwinView}
 
 -- an answer that waits is no part of what was judged
@@ -21,30 +25,76 @@ awaited_left None (note ∷ before) P may each = each
 awaited_left (Some (Answered name answer)) read P may each = subst (λ effect. EachNote P (if effect then read else Answered name answer ∷ read)) (sym may) each
 awaited_left (Some note) read P may each = absurd may
 
--- no gate was shut before a note that is judged
-judged_early : (core : ℕ) (note : Note ℕ) (has : Journal ℕ) → is_judged core note has ≡ true → has_shut (note ∷ has) ≡ has_shut has
-judged_early core note has judged = by_case (is_shut note) refl
-  where
-    by_case : (shut : Bool) → is_shut note ≡ shut → has_shut (note ∷ has) ≡ has_shut has
-    by_case false is = ap (λ shut. shut || has_shut has) is
-    by_case true is = cc (judged, is)
+module _ (old new : TwinView) (waited waits : Option (Note ℕ)) (links more : Links) (left half : Bool) (has : Journal ℕ) (note : Note ℕ) where
+  -- what was read, and whether a note was left out, behind one more note
+  pub record IsFurther : Type 0 where
+    pub again : replayed old.terms.actor (note ∷ has) ≡ with_next waits new.read
+    pub is_read : IsRead new waits
+    pub whole : (left || not (is_replayed old.terms.actor note)) ≡ false → replayed old.terms.actor (note ∷ has) ≡ note ∷ has
 
-module _ (core : ℕ) (old new : TwinView) (waited waits : Option (Note ℕ)) (over half : Bool) (has : Journal ℕ) (note : Note ℕ) where
-  -- a judge that reads on stays one
-  pub judges_more : (goes_on : Bool) → IsJudge core old waited over half has goes_on → goes_on ≡ true → is_judged old.terms.actor note has ≡ true → ReadsOn note old waited new waits →
-      IsJudge core new waits over (is_half note) (note ∷ has) goes_on
-  judges_more goes_on is going judged reads =
-      let along : IsAlong old waited over half has = is.along going in
-      let actor : new.terms.actor ≡ old.terms.actor = ap (λ terms. terms.actor) reads.terms in
-      let more : judged_of old.terms.actor (note ∷ has) ≡ note ∷ judged_of old.terms.actor has = ap (λ judged. if judged then note ∷ judged_of old.terms.actor has else judged_of old.terms.actor has) judged in
-      let now : judged_of new.terms.actor (note ∷ has) ≡ with_next waits new.read =
-      ap (λ core. judged_of core (note ∷ has)) actor ∙ more ∙ ap (λ before. note ∷ before) along.judged ∙ sym reads.one_more in
+  further : IsAlong old waited links left half has → Steps old.terms.actor half note old waited new waits → IsFurther
+  further along steps = by_case (is_replayed old.terms.actor note) refl
+    where
+      by_case : (test : Bool) → is_replayed old.terms.actor note ≡ test → IsFurther
+      by_case true is =
+          let longer : replayed old.terms.actor (note ∷ has) ≡ note ∷ replayed old.terms.actor has = ap (λ test. if test then note ∷ replayed old.terms.actor has else replayed old.terms.actor has) is in
+          record {
+            again = longer ∙ ap (λ before. note ∷ before) along.again ∙ sym (steps.again is).one_more;
+            is_read = (steps.again is).is_read;
+            whole = λ none. longer ∙ ap (λ before. note ∷ before) (along.whole (unleft left (not (is_replayed old.terms.actor note)) none));
+          }
+        where
+          unleft : (one other : Bool) → (one || other) ≡ false → one ≡ false
+          unleft false other none = refl
+          unleft true other none = none
+      by_case false is =
+          let same : replayed old.terms.actor (note ∷ has) ≡ replayed old.terms.actor has = ap (λ test. if test then note ∷ replayed old.terms.actor has else replayed old.terms.actor has) is in
+          let stays = steps.left is in
+          record {
+            again = same ∙ along.again ∙ (λ i. with_next (sym stays.2 i) (sym stays.1 i).read);
+            is_read = subst (λ waits. IsRead new waits) (sym stays.2) (subst (λ twin. IsRead twin waited) (sym stays.1) along.is_read);
+            whole = λ none. absurd (true≢false (sym (some left (is_replayed old.terms.actor note) is) ∙ none));
+          }
+        where
+          some : (one other : Bool) → other ≡ false → (one || not other) ≡ true
+          some true other is = refl
+          some false other is = ap not is
+
+  -- a judge that goes on is one with all notes
+  pub judges_more : (goes_on : Bool) → IsJudge old waited links left half has goes_on → goes_on ≡ true → IsAllowed links.core links.cores note has → OpensFirst links.core note has →
+      Steps links.core half note old waited new waits → new.terms ≡ old.terms → more.core ≡ links.core → more.cores ≡ links.cores → KnowsLinks more (note ∷ has) →
+      IsJudge new waits more (left || not (is_replayed links.core note)) (is_half note) (note ∷ has) goes_on
+  judges_more goes_on is going allowed opens steps terms core_same cores_same knows =
+      let along : IsAlong old waited links left half has = is.along going in
+      let step : Steps old.terms.actor half note old waited new waits = subst (λ core. Steps core half note old waited new waits) (sym is.core_is) steps in
+      let far : IsFurther = further along step in
+      let actor : new.terms.actor ≡ old.terms.actor = ap (λ terms. terms.actor) terms in
+      let lawful : EachNote (MayStand new.terms) (without_awaited (replayed old.terms.actor (note ∷ has))) = subst (λ journal. EachNote (MayStand new.terms) (without_awaited journal)) (sym far.again)
+      (awaited_left waits new.read (MayStand new.terms) far.is_read.may_wait far.is_read.lawful) in
       record {
-        core_is = actor ∙ is.core_is;
-        along = λ goes. record { judged = now; gate = along.gate ∙ sym (judged_early old.terms.actor note has judged); step = refl; is_read = reads.is_read };
-        right = record {
-          lawful = subst (λ journal. EachNote (MayStand new.terms) (without_awaited journal)) (sym now)
-              (awaited_left waits new.read (MayStand new.terms) reads.is_read.may_wait reads.is_read.lawful);
-          apart = subst (λ core. EachNote (IsApart core) (note ∷ has)) (sym actor) (λ unshut unjudged. cc (judged, unjudged), is.right.apart);
+        core_is = actor ∙ is.core_is ∙ sym core_same;
+        cores_are = ap (λ terms. terms.cores) terms ∙ is.cores_are ∙ sym cores_same;
+        along = λ goes. record {
+          again = ap (λ core. replayed core (note ∷ has)) actor ∙ far.again;
+          is_read = far.is_read;
+          known = knows;
+          whole = λ none. ap (λ core. replayed core (note ∷ has)) actor ∙ far.whole (ap (λ core. left || not (is_replayed core note)) is.core_is ∙ none);
+          step = refl;
         };
+        right = subst (λ terms. IsReplayed terms (note ∷ has)) (sym terms) (record {
+          core_in = is.right.core_in;
+          lawful = subst (λ terms. EachNote (MayStand terms) (without_awaited (replayed old.terms.actor (note ∷ has)))) terms lawful;
+          left = (λ unread. sym along.step ∙ (step.left unread).0, is.right.left);
+          links = (record { allowed = subst (λ core. IsAllowed core old.terms.cores note has) (sym is.core_is) (subst (λ cores. IsAllowed links.core cores note has) (sym is.cores_are) allowed) }, is.right.links);
+          opening = (subst (λ core. OpensFirst core note has) (sym is.core_is) opens, is.right.opening);
+        });
       }
+
+  -- one that found a note wrong is along with none
+  pub judges_no_more : (goes_on : Bool) → IsJudge old waited links left half has goes_on → new.terms ≡ old.terms → IsJudge new waits links left half has false
+  judges_no_more goes_on is terms = record {
+    core_is = ap (λ terms. terms.actor) terms ∙ is.core_is;
+    cores_are = ap (λ terms. terms.cores) terms ∙ is.cores_are;
+    along = λ goes. absurd (true≢false (sym goes));
+    right = subst (λ terms. IsReplayed terms has) (sym terms) is.right;
+  }

@@ -1,4 +1,9 @@
 pub mod Oldest
+pub mod LinkSteps
+pub mod Seen
+pub mod Owned
+pub mod Standing
+pub mod Whole
 pub mod Judgements
 pub mod Own
 pub mod Refused

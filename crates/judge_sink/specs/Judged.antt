@@ -1,8 +1,11 @@
--- Which notes of its own core a sink judges, and what is known of them.
-use Rattle.std.specs.Prelude.{◌≡◌, ℕ, Bool, true, false, not, ◌&&◌, ◌||◌, ◌==◌, if◌then◌else◌, [], ◌∷◌}
+-- What is known of the notes of its own core that a sink judged.
+use Rattle.std.specs.Prelude.{◌≡◌, ℕ, ◌+◌, ◌^◌, ◌<◌, ◌≤◌, Bool, true, false, not, ◌==◌, if◌then◌else◌, None, [], ◌∷◌, length}
+use Rattle.base_words.specs.declared.names.JobId.{JobId}
 use Rattle.base_words.specs.declared.note.Note.{Note}
-use Rattle.base_words.specs.declared.note.Note.TheVariants.{Sent, Answered, Pick, Shut, Collected, Redeemed, Detached}
+use Rattle.base_words.specs.declared.note.Note.TheVariants.{Sent, Took, Back, Answered, Pick, Shut, Collected, Redeemed, Detached}
+use Rattle.base_words.specs.Closing.{IsCounted, IsNextShut, final_count}
 use Rattle.base_words.specs.Commands.{has_effect}
+use Rattle.base_words.specs.Filters.{accepted_orders}
 use Rattle.base_words.specs.Journal.{Journal, EachNote}
 use Rattle.base_words.specs.Lawful.{MayStand}
 use Rattle.base_words.specs.Terms.{Terms}
@@ -14,25 +17,6 @@ is_elsewhere core (Collected name outcome) = not (name.to == core)
 is_elsewhere core (Redeemed name outcome) = not (name.to == core)
 is_elsewhere core (Detached name) = not (name.to == core)
 is_elsewhere core _ = false
-
--- whether a note tells that a gate was shut
-abbrev pub is_shut : Note ℕ → Bool
-is_shut (Shut sender count) = true
-is_shut _ = false
-
--- whether a gate was shut: how many orders come through it is told by later notes
-abbrev pub has_shut : Journal ℕ → Bool
-has_shut [] = false
-has_shut (note ∷ before) = is_shut note || has_shut before
-
--- whether a note is judged that stands behind these: no gate was shut, and it tells of no submission to another core
-abbrev pub is_judged : ℕ → Note ℕ → Journal ℕ → Bool
-is_judged core note before = not (has_shut (note ∷ before)) && not (is_elsewhere core note)
-
--- the notes that are judged, in their order
-abbrev pub judged_of : ℕ → Journal ℕ → Journal ℕ
-judged_of core [] = []
-judged_of core (note ∷ before) = if is_judged core note before then note ∷ judged_of core before else judged_of core before
 
 -- the same notes without an answer whose effect is still to be told
 abbrev pub without_awaited : Journal ℕ → Journal ℕ
@@ -50,11 +34,51 @@ abbrev pub is_half_done : Journal ℕ → Bool
 is_half_done [] = false
 is_half_done (note ∷ before) = is_half note
 
--- a note that isn't judged stands inside no step, as long as no gate was shut
-abbrev pub IsApart : ℕ → Note ℕ → Journal ℕ → Type 0
-IsApart core note before = has_shut before ≡ false → is_judged core note before ≡ false → is_half_done before ≡ false
+-- a note that tells of no submission to another core may stand behind these
+abbrev pub StandsOwn : Terms → Note ℕ → Journal ℕ → Type 0
+StandsOwn terms note before = is_elsewhere terms.actor note ≡ false → MayStand terms note before
 
--- each note that is judged may stand where it stands among those that are, and each other one stands between two steps
+-- one that does stands between two steps
+abbrev pub IsApart : ℕ → Note ℕ → Journal ℕ → Type 0
+IsApart core note before = is_elsewhere core note ≡ true → is_half_done before ≡ false
+
+-- a gate may be shut, and the core's own is shut at the count of what it sent to itself
+pub record MayShut (core cores sender count : ℕ) (before : Journal ℕ) : Type 0 where
+  pub next : IsNextShut cores sender count before
+  pub own : sender ≡ core → count ≡ length (accepted_orders core before)
+
+-- a submission has the next number of its link, and behind its own gate the core sends itself nothing
+pub record MaySend (core cores : ℕ) (name : JobId) (before : Journal ℕ) : Type 0 where
+  pub sender : name.from ≡ core
+  pub receiver : name.to < cores
+  pub next : name.number ≡ length (accepted_orders name.to before) + 1
+  pub in_range : name.number < 2 ^ 63
+  pub own : name.to ≡ core → final_count core before ≡ None
+
+-- a submission was sent before
+pub record WasSent (core : ℕ) (name : JobId) (before : Journal ℕ) : Type 0 where
+  pub sender : name.from ≡ core
+  pub positive : 1 ≤ name.number
+  pub sent : name.number ≤ length (accepted_orders name.to before)
+
+-- gates are shut and orders sent as they may be, what is delivered is within the count of its gate, and what is collected, redeemed or detached was sent
+abbrev pub IsAllowed : ℕ → ℕ → Note ℕ → Journal ℕ → Type 0
+IsAllowed core cores (Shut sender count) before = MayShut core cores sender count before
+IsAllowed core cores (Took name queue) before = IsCounted (final_count name.from before) name.number
+IsAllowed core cores (Back name reason) before = IsCounted (final_count name.from before) name.number
+IsAllowed core cores (Answered name answer) before = IsCounted (final_count name.from before) name.number
+IsAllowed core cores (Sent name order) before = MaySend core cores name before
+IsAllowed core cores (Collected name outcome) before = WasSent core name before
+IsAllowed core cores (Redeemed name outcome) before = WasSent core name before
+IsAllowed core cores (Detached name) before = WasSent core name before
+IsAllowed core cores _ before = Unit {0}
+
+-- a note keeps to what one journal tells of its core's links
+pub record KeepsLinks (core cores : ℕ) (note : Note ℕ) (before : Journal ℕ) : Type 0 where
+  pub allowed : IsAllowed core cores note before
+
+-- each note may stand where it stands, except those that tell of submissions to other cores, which stand between two steps; and all keep to what one journal tells of its links
 pub record IsJudged (terms : Terms) (has : Journal ℕ) : Type 0 where
-  pub lawful : EachNote (MayStand terms) (without_awaited (judged_of terms.actor has))
+  pub lawful : EachNote (StandsOwn terms) (without_awaited has)
   pub apart : EachNote (IsApart terms.actor) has
+  pub links : EachNote (KeepsLinks terms.actor terms.cores) has

@@ -1,5 +1,5 @@
 -- What judges a core's notes, and what is known of those that it found right.
-use Rattle.std.specs.Prelude.{◌≡◌, ℕ, ◌<◌, Bool, true, Option, None, Some, [], ◌∷◌, Result, Ok, Err}
+use Rattle.std.specs.Prelude.{◌≡◌, ℕ, ◌<◌, Bool, true, false, Option, None, Some, [], ◌∷◌, Result, Ok, Err}
 use Rattle.base_words.specs.Commands.{has_effect}
 use Rattle.base_words.specs.Journal.{Journal, EachNote}
 use Rattle.base_words.specs.Lawful.{MayStand}
@@ -9,7 +9,10 @@ use Rattle.base_words.specs.declared.note.Note.{Note}
 use Rattle.base_words.specs.declared.note.Note.TheVariants.{Answered}
 use Rattle.host_house.specs.declared.house.OpenError.{OpenError}
 use Rattle.host_house.specs.declared.house.OpenError.TheVariants.{BadConfig, Memory}
-use Rattle.judge_sink.specs.Judged.{IsJudged, has_shut, is_half_done, judged_of}
+use Rattle.judge_sink.specs.declared.links.Links.{Links}
+use Rattle.judge_sink.specs.Links.{KnowsLinks}
+use Rattle.judge_sink.specs.Judged.{is_half_done}
+use Rattle.judge_sink.specs.Replayed.{IsReplayed, is_replayed, replayed}
 use Rattle.judge_sink.specs.Twins.{TwinView}
 
 -- whose notes they are, those that were told and found right, the newest first, and whether none was found wrong
@@ -34,24 +37,31 @@ pub record IsRead (twin : TwinView) (waits : Option (Note ℕ)) : Type 0 where
   pub lawful : EachNote (MayStand twin.terms) twin.read
   pub may_wait : MayWait waits
 
--- what is judged of these notes was read, or waits
-pub record IsAlong (twin : TwinView) (waits : Option (Note ℕ)) (over half : Bool) (has : Journal ℕ) : Type 0 where
-  pub judged : judged_of twin.terms.actor has ≡ with_next waits twin.read
-  pub gate : over ≡ has_shut has
-  pub step : half ≡ is_half_done has
+-- what is replayed of these notes was read, or waits; and whether any was left out
+pub record IsAlong (twin : TwinView) (waits : Option (Note ℕ)) (links : Links) (left half : Bool) (has : Journal ℕ) : Type 0 where
+  pub again : replayed twin.terms.actor has ≡ with_next waits twin.read
   pub is_read : IsRead twin waits
+  pub known : KnowsLinks links has
+  pub whole : left ≡ false → replayed twin.terms.actor has ≡ has
+  pub step : half ≡ is_half_done has
 
 -- a judge is along with its notes as long as it found none wrong, and those that it found right are lawful
-pub record IsJudge (core : ℕ) (twin : TwinView) (waits : Option (Note ℕ)) (over half : Bool) (has : Journal ℕ) (goes_on : Bool) : Type 0 where
-  pub core_is : twin.terms.actor ≡ core
-  pub along : goes_on ≡ true → IsAlong twin waits over half has
-  pub right : IsJudged twin.terms has
+pub record IsJudge (twin : TwinView) (waits : Option (Note ℕ)) (links : Links) (left half : Bool) (has : Journal ℕ) (goes_on : Bool) : Type 0 where
+  pub core_is : twin.terms.actor ≡ links.core
+  pub cores_are : twin.terms.cores ≡ links.cores
+  pub along : goes_on ≡ true → IsAlong twin waits links left half has
+  pub right : IsReplayed twin.terms has
 
 -- one more note was read, or waits
 pub record ReadsOn (note : Note ℕ) (old : TwinView) (waited : Option (Note ℕ)) (new : TwinView) (waits : Option (Note ℕ)) : Type 0 where
   pub terms : new.terms ≡ old.terms
   pub one_more : with_next waits new.read ≡ note ∷ with_next waited old.read
   pub is_read : IsRead new waits
+
+-- a note that is replayed was read on, and any other stands between two steps and changes nothing
+pub record Steps (core : ℕ) (half : Bool) (note : Note ℕ) (old : TwinView) (waited : Option (Note ℕ)) (new : TwinView) (waits : Option (Note ℕ)) : Type 0 where
+  pub again : is_replayed core note ≡ true → ReadsOn note old waited new waits
+  pub left : is_replayed core note ≡ false → (half ≡ false) × (new ≡ old) × (waits ≡ waited)
 
 -- the numbers are within the limits of a house that has this core
 pub record AreGood (core cores cap burst : ℕ) : Type 0 where

@@ -1,15 +1,18 @@
 -- Which notes of a journal are judged.
-use Rattle.std.specs.Prelude.{◌≡◌, ℕ, false, ◌∷◌, All}
+use Rattle.std.specs.Prelude.{◌≡◌, ℕ, false, None, ◌∷◌, All}
 use Rattle.base_words.specs.declared.note.Note.{Note}
-use Rattle.base_words.specs.Journal.{Journal}
-use Rattle.judge_sink.specs.Judged.{has_shut, is_elsewhere, judged_of}
+use Rattle.base_words.specs.Commands.{effect_awaited}
+use Rattle.base_words.specs.Journal.{EachNote, Journal}
+use Rattle.base_words.specs.Lawful.{MayStand}
+use Rattle.base_words.specs.Terms.{Terms}
+use Rattle.judge_sink.specs.Judged.{IsJudged, is_elsewhere, without_awaited}
 
--- no note of the core's own is left out: each is judged that tells of no submission to another core and stands before the first shut gate
+-- no note of the core's own is left out: each may stand where it stands, except an answer whose effect is still to be told
 abbrev pub OwnAreJudged : Type 0
 OwnAreJudged =
-    (core : ℕ) (note : Note ℕ) (before : Journal ℕ) →
-    is_elsewhere core note ≡ false → has_shut (note ∷ before) ≡ false → judged_of core (note ∷ before) ≡ note ∷ judged_of core before
+    (terms : Terms) (note : Note ℕ) (before : Journal ℕ) →
+    IsJudged terms (note ∷ before) → is_elsewhere terms.actor note ≡ false → effect_awaited (note ∷ before) ≡ None → MayStand terms note before
 
--- so all notes of a core that sent nothing to others and shut no gate are judged
+-- so all notes of a core that sent nothing to others may stand where they stand
 abbrev pub AllAreJudged : Type 0
-AllAreJudged = (core : ℕ) (has : Journal ℕ) → All (λ note. is_elsewhere core note ≡ false) has → has_shut has ≡ false → judged_of core has ≡ has
+AllAreJudged = (terms : Terms) (has : Journal ℕ) → IsJudged terms has → All (λ note. is_elsewhere terms.actor note ≡ false) has → EachNote (MayStand terms) (without_awaited has)

@@ -1,4 +1,6 @@
 pub mod Judged
+pub mod Links
+pub mod Replayed
 pub mod Twins
 pub mod Judging
 pub mod Sinks

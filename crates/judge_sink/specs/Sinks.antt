@@ -1,8 +1,9 @@
 -- What a caller sees of a sink that judges, and why it refuses.
-use Rattle.std.specs.Prelude.{◌≡◌, ◌⊎◌, ℕ, ◌+◌, ◌-◌, ◌^◌, ◌<◌, ◌++◌, Bool, true, false, List, Option, None, Some, length, min, reverse, take}
+use Rattle.std.specs.Prelude.{◌≡◌, ◌⊎◌, ℕ, ◌+◌, ◌<◌, ◌++◌, Bool, true, false, List, Option, None, Some, length, reverse, take}
 use Rattle.base_words.specs.declared.note.Note.{Note}
 use Rattle.base_words.specs.Journal.{Journal}
 use Rattle.base_words.specs.Terms.{Terms}
+pub use Rattle.judge_sink.specs.Links.{counted}
 use Rattle.judge_sink.specs.Judged.{IsJudged}
 use Rattle.judge_sink.specs.Judging.{JudgeView}
 
@@ -14,10 +15,6 @@ pub record JudgingView (S : Type 0) : Type 0 where
   pub goes_on : Bool
   pub fault : Option ℕ
   pub unasked : ℕ
-
--- a number that is counted as long as the count goes
-abbrev pub counted : ℕ → ℕ
-counted count = min count (2 ^ 64 - 1)
 
 -- the note of this place is wrong, and is the first: what is judged before it is lawful
 pub record IsFirstWrong (terms : Terms) (has : Journal ℕ) (notes : List (Note ℕ)) (place number : ℕ) : Type 0 where

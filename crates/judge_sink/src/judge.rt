@@ -1,16 +1,21 @@
 //! What judges a core's notes, one after another.
 //!
-//! A note goes one of three ways: it is passed unjudged, if it tells of a submission to another core or stands behind a gate that was shut; it waits,
-//! if it is an answer whose command the next note tells; or it is read on the core of a house. What was found right stands in `has`, for the
-//! proof alone. At the first wrong note the core has gone on, so nothing is judged from then on.
+//! A note goes one of three ways: it is left out, if it tells of a gate or of a submission to another core; it waits, if it is an answer whose
+//! command the next note tells; or it is read on the core of a house. What all notes ask of the links is judged beside that. What was found right
+//! stands in `has`, for the proof alone. At the first wrong note the core has gone on, so nothing is judged from then on.
 
-ghost use Rattle.std.specs.Prelude.{◌≡◌, ◌<◌, ◌∷◌, ◌++◌, [], None, Some, IfOk, IfSome, false, length, reverse, take, true};
-ghost use Rattle.judge_sink.specs.Judged.{IsJudged};
-ghost use Rattle.judge_sink.specs.Judging.{IsRead, MayWait, OpensJudge, ReadsOn};
+ghost use Rattle.std.specs.Prelude.{◌≡◌, ◌<◌, ◌∷◌, ◌++◌, ◌||◌, ℕ, [], None, Some, IfSome, false, length, not, reverse, take, true};
+ghost use Rattle.base_words.specs.Journal.{Journal};
+ghost use Rattle.judge_sink.specs.Links.{KnowsLinks};
+ghost use Rattle.judge_sink.specs.Judged.{IsAllowed, IsJudged, is_half_done};
+ghost use Rattle.judge_sink.specs.Judging.{IsRead, MayWait, OpensJudge, ReadsOn, Steps};
+ghost use Rattle.judge_sink.specs.Replayed.{OpensFirst, replayed};
 ghost use Rattle.base_words.specs.Commands as commands;
 ghost use Rattle.judge_sink.specs.Judged as spec;
+ghost use Rattle.judge_sink.specs.Replayed as again;
 
 use crate::house::House;
+use crate::links::Links;
 use base_sealed::History;
 use base_words::{Answer, CoreNo, Note};
 use host_house::OpenError;
@@ -20,12 +25,12 @@ use std::marker::Model;
 /// What judges the notes of a core, and which it found right.
 #[derive(Drop)]
 pub(crate) struct Judge {
-    core: CoreNo,
     house: House,
     /// An answer whose effect is still to be told: which command it answers only the effect says.
     waits: Option<Note<u64>>,
-    /// Whether a gate was shut. From then on no note is judged.
-    over: bool,
+    links: Links,
+    /// Whether a note was left out.
+    left: bool,
     /// Whether the last note begins a step that the next one ends.
     half: bool,
     /// Whether no note was found wrong.
@@ -42,7 +47,7 @@ impl Model for Judge {
 
     ghost view = { λ judge. record { terms = judge.house.terms; has = reverse judge.has.items; goes_on = judge.goes_on } };
 
-    ghost invariant = { λ judge. IsJudge judge.core judge.house judge.waits judge.over judge.half (reverse judge.has.items) judge.goes_on };
+    ghost invariant = { λ judge. IsJudge judge.house judge.waits judge.links judge.left judge.half (reverse judge.has.items) judge.goes_on };
 }
 
 /// Whether a note tells of a submission to another core than this one.
@@ -60,9 +65,41 @@ fn is_elsewhere(core: CoreNo, note: &Note<u64>) -> bool
 
 /// Whether a note tells that a gate was shut.
 fn is_shut(note: &Note<u64>) -> bool
-    ensures { result ≡ spec.is_shut note.now }
+    ensures { result ≡ again.is_shut note.now }
 {
     matches!(note, Note::Shut(..))
+}
+
+/// Whether a note is replayed.
+fn is_replayed(core: CoreNo, note: &Note<u64>) -> bool
+    ensures { result ≡ again.is_replayed core note.now }
+{
+    !is_shut(note) && !is_elsewhere(core, note)
+}
+
+/// Whether a queue may be created here, if the note tells so: at the opening no note is left out.
+fn may_open(note: &Note<u64>, half: bool, left: bool) -> bool
+    ensures { result ≡ true → (core : ℕ) (before : Journal ℕ) → half ≡ is_half_done before → (left ≡ false → replayed core before ≡ before) → OpensFirst core note.now before }
+{
+    match note {
+        Note::Created(..) => half || !left,
+        _ => true,
+    }
+}
+
+/// Whether a note keeps to the links, and opens a queue only where it may.
+fn fits(links: &Links, half: bool, left: bool, note: &Note<u64>) -> bool
+    ensures links { result ≡ true → (before : Journal ℕ) → KnowsLinks links.now before → IsAllowed links.now.core links.now.cores note.now before }
+    ensures opens { result ≡ true → (core : ℕ) (before : Journal ℕ) → half ≡ is_half_done before → (left ≡ false → replayed core before ≡ before) → OpensFirst core note.now before }
+{
+    links.allow(note) && may_open(note, half, left)
+}
+
+/// Whether a note was left out, this one counted too.
+fn is_left(left: bool, core: CoreNo, note: &Note<u64>) -> bool
+    ensures { result ≡ (left || not (again.is_replayed core note.now)) }
+{
+    left || !is_replayed(core, note)
 }
 
 /// Whether an answer has an effect.
@@ -96,7 +133,7 @@ fn is_half(note: &Note<u64>) -> bool
     }
 }
 
-/// Reads a note that is judged. Whether a core writes it there, or it waits.
+/// Reads a note that is replayed. Whether a core writes it there, or it waits.
 fn read_on(house: &mut House, waits: &mut Option<Note<u64>>, note: &Note<u64>) -> bool
     requires read { IsRead house.old waits.old }
     ensures right { result ≡ true → ReadsOn note.now house.old waits.old house.new waits.new }
@@ -111,6 +148,25 @@ fn read_on(house: &mut House, waits: &mut Option<Note<u64>>, note: &Note<u64>) -
         return true;
     }
     house.reads(note, note)
+}
+
+/// Reads a note that is replayed, and leaves any other out between two steps. Whether it has a place there.
+fn step_on(
+    house: &mut House,
+    waits: &mut Option<Note<u64>>,
+    core: CoreNo,
+    half: bool,
+    note: &Note<u64>,
+) -> bool
+    requires read { IsRead house.old waits.old }
+    ensures right { result ≡ true → Steps core half note.now house.old waits.old house.new waits.new }
+    ensures terms { house.new.terms ≡ house.old.terms }
+{
+    if is_replayed(core, note) {
+        read_on(house, waits, note)
+    } else {
+        !half
+    }
 }
 
 impl Judge {
@@ -130,10 +186,10 @@ impl Judge {
     {
         match House::open(alloc, core, cores, cap, burst) {
             Ok(house) => Ok(Judge {
-                core,
                 house,
                 waits: None,
-                over: false,
+                links: Links::new(core, cores),
+                left: false,
                 half: false,
                 goes_on: true,
                 has: History::new(),
@@ -149,58 +205,24 @@ impl Judge {
         self.goes_on
     }
 
-    /// Whether the next note is judged.
-    fn judges(&self, note: &Note<u64>) -> bool
-        requires { self.now.goes_on ≡ true }
-        ensures { result ≡ spec.is_judged self.now.terms.actor note.now self.now.has }
-    {
-        !(is_shut(note) || self.over) && !is_elsewhere(self.core, note)
-    }
-
-    /// Passes a note that isn't judged, unless it stands inside a step. Whether it has a place there.
-    fn passes(&mut self, note: &Note<u64>) -> bool
-        requires goes_on { self.old.goes_on ≡ true }
-        requires unjudged { spec.is_judged self.old.terms.actor note.now self.old.has ≡ false }
-        ensures right { result ≡ true → self.new ≡ record self.old { has = note.now ∷ self.old.has } }
-        ensures wrong { result ≡ false → self.new ≡ record self.old { goes_on = false } }
-    {
-        if self.half && !self.over {
-            self.goes_on = false;
-            return false;
-        }
-        self.over = self.over || is_shut(note);
-        self.half = is_half(note);
-        self.has = self.has.with(note);
-        true
-    }
-
-    /// Reads a note that is judged. Whether it is right.
-    fn reads(&mut self, note: &Note<u64>) -> bool
-        requires goes_on { self.old.goes_on ≡ true }
-        requires judged { spec.is_judged self.old.terms.actor note.now self.old.has ≡ true }
-        ensures right { result ≡ true → self.new ≡ record self.old { has = note.now ∷ self.old.has } }
-        ensures wrong { result ≡ false → self.new ≡ record self.old { goes_on = false } }
-    {
-        if !read_on(&mut self.house, &mut self.waits, note) {
-            self.goes_on = false;
-            return false;
-        }
-        self.half = is_half(note);
-        self.has = self.has.with(note);
-        true
-    }
-
     /// Judges the next note. Whether it is right.
     fn judge(&mut self, note: &Note<u64>) -> bool
         requires { self.old.goes_on ≡ true }
         ensures right { result ≡ true → self.new ≡ record self.old { has = note.now ∷ self.old.has } }
         ensures wrong { result ≡ false → self.new ≡ record self.old { goes_on = false } }
     {
-        if self.judges(note) {
-            self.reads(note)
-        } else {
-            self.passes(note)
+        let core = self.links.core();
+        let fits = fits(&self.links, self.half, self.left, note);
+        let steps = step_on(&mut self.house, &mut self.waits, core, self.half, note);
+        if !fits || !steps {
+            self.goes_on = false;
+            return false;
         }
+        self.links.add(note);
+        self.left = is_left(self.left, core, note);
+        self.half = is_half(note);
+        self.has = self.has.with(note);
+        true
     }
 
     /// Judges these notes as far as they are right.

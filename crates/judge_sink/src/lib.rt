@@ -6,6 +6,7 @@ mod house;
 mod judge;
 mod judging;
 pub mod laws;
+mod links;
 mod orders;
 mod senders;
 mod twin;
