@@ -7,6 +7,9 @@ use Rattle.run_worker.proofs.rounds.Rounds.take_turn.Goals as goal
 pub returns-then-nobody_hears-clause-sets : goal.returns-then-nobody_hears-clause-sets
 returns-then-nobody_hears-clause-sets g c =
     let stays = c.take_turn-turned.ensures.steps.stays in
+    let timers = c.args.self.now.timers in
+    let queues = c.take_turn-turned.new.self.linked.recorded.core.queues in
+    let reading = unwrap_or c.take_turn-turned.new.meter.last 0 in
     let newer =
     c.since-notes.ensures
     ∙ since_newer c.args.self.now.served c.take_turn-turned.new.self c.journal.result.now c.journal-2.result.now c.kept_count-before.result c.journal.ensures.journal
@@ -15,8 +18,8 @@ returns-then-nobody_hears-clause-sets g c =
       newer = stays.grows.0;
       grows = stays.grows.1;
       heard =
-          subst (λ notes. HearsNotes g.J.Task.sleeps c.take_turn-turned.new.self.linked.recorded.core.queues (unwrap_or c.take_turn-turned.new.meter.last 0) notes c.args.self.now.timers c.args.self.now.timers) newer
-          (silent_hears g.J.Task.sleeps c.take_turn-turned.new.self.linked.recorded.core.queues (unwrap_or c.take_turn-turned.new.meter.last 0) c.args.self.now.timers (c.nobody_hears.ensures.vacant c.if-nobody_hears.true) c.since-notes.result.now (c.nobody_hears.ensures.silent c.if-nobody_hears.true));
+          subst (λ notes. HearsNotes g.J.Task.sleeps queues reading notes timers timers) newer
+          (silent_hears g.J.Task.sleeps queues reading timers (c.nobody_hears.ensures.vacant c.if-nobody_hears.true) c.since-notes.result.now (c.nobody_hears.ensures.silent c.if-nobody_hears.true));
     }
 
 pub returns-then-nobody_hears-clause-rung : goal.returns-then-nobody_hears-clause-rung
