@@ -26,13 +26,13 @@ hears_nobody (inr some) = omega (arith, some)
 writes_too_much : WritesFew (round_most (record { linked = noted []; ending = false })) (record { linked = noted []; ending = false }) (record { linked = noted (replicate 33 (Created 1 900)); ending = false }) → ⊥
 writes_too_much few = let wrote = few.wrote refl in omega (arith, wrote)
 
--- 32 turns are left behind a look that leaves turns, and none behind another
+-- 24 turns are left behind a look that leaves turns, and none behind another
 are_other_turns : (leaves : Bool) → 5 ≡ turns_after leaves → ⊥
 are_other_turns true five = omega (arith, five)
 are_other_turns false five = omega (arith, five)
 
 -- none is left in a closed core to which something came
-none_is_left : (worked back : Bool) → 32 ≡ turns_after (leaves_turns worked (true || back) true) → ⊥
+none_is_left : (worked back : Bool) → 24 ≡ turns_after (leaves_turns worked (true || back) true) → ⊥
 none_is_left true back some = omega (arith, some)
 none_is_left false back some = omega (arith, some)
 
@@ -52,8 +52,8 @@ module _ (meaning : Meaning ℕ ℕ) (sleeps : ℕ → Option ℕ) (reads : ℕ 
   leaves_five_turns old served watch some looks = are_other_turns _ looks.looks.plans
 
   -- a look to which something came leaves turns though its core is closed, so that its gates stay open
-  passes_its_gates : (old : RoundView ℕ ℕ ℕ ℕ) (some : Bool) (looks : LooksAtAll meaning sleeps reads asked old some (round_view (record { linked = noted half_shut; ending = false }) [] (watch_view 0 None 0) 0 32)) → looks.looks.came ≡ true → ⊥
-  passes_its_gates old some looks came = none_is_left looks.looks.worked looks.looks.back (subst (λ one. 32 ≡ turns_after (leaves_turns looks.looks.worked (one || looks.looks.back) true)) came looks.looks.plans)
+  passes_its_gates : (old : RoundView ℕ ℕ ℕ ℕ) (some : Bool) (looks : LooksAtAll meaning sleeps reads asked old some (round_view (record { linked = noted half_shut; ending = false }) [] (watch_view 0 None 0) 0 24)) → looks.looks.came ≡ true → ⊥
+  passes_its_gates old some looks came = none_is_left looks.looks.worked looks.looks.back (subst (λ one. 24 ≡ turns_after (leaves_turns looks.looks.worked (one || looks.looks.back) true)) came looks.looks.plans)
 
   -- the time of polls isn't counted anew behind a look
   keeps_the_time : (old : RoundView ℕ ℕ ℕ ℕ) (served : ServedView ℕ ℕ) (some : Bool) (turns : ℕ) → LooksAtAll meaning sleeps reads asked old some (round_view served [] (watch_view 0 None 7) 0 turns) → ⊥

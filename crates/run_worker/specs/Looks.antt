@@ -21,9 +21,9 @@ PassesLinks taken turns false left = ((turns ≡ 0) ⊎ (2000 ≤ taken)) × (le
 
 -- how many turns may be made at most without a look
 abbrev pub most_turns : ℕ
-most_turns = 32
+most_turns = 24
 
--- 32 turns may be made without a look behind one that leaves turns, and none behind another
+-- 24 turns may be made without a look behind one that leaves turns, and none behind another
 abbrev pub turns_after : Bool → ℕ
 turns_after true = most_turns
 turns_after false = 0

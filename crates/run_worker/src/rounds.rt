@@ -29,7 +29,7 @@ use run_config::{Clock, Gate};
 use std::alloc::Global;
 
 /// How many turns a worker makes at most before it looks at its links again.
-const MOST_TURNS: u32 = 32;
+const MOST_TURNS: u32 = 24;
 
 /// It looks again at once after polls that took so many nanoseconds together.
 const MOST_TIME: u64 = 2_000;
