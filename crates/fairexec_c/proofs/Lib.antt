@@ -1,4 +1,4 @@
 pub mod HandedIn
+pub mod Handling
 pub mod Kept
-pub mod SeatValues
-pub mod Values
+pub mod Sealing

@@ -12,16 +12,14 @@ use Rattle.host_calls.specs.declared.member.Member.{Member}
 use Rattle.host_calls.specs.declared.member.Member.TheVariants as member
 use Rattle.host_calls.specs.Codes.{number_of}
 use Rattle.host_calls.specs.Members.{OnCore, OnSleepers}
-use Rattle.host_calls.specs.Sleepers.{OpensTimers, RunTimes, SettlesNamed, WakesDue, sleep_of}
+use Rattle.host_calls.specs.Sleepers.{OpensTimers, RunTimes, SettlesNamed, WakesDue}
 use Rattle.fairexec_c.specs.Handles.{Answers}
 use Rattle.fairexec_c.specs.Running.{SettlesStep}
 use Rattle.fairexec_c.specs.Waking.{WakesNamed}
 
--- the run of the job that is out is settled, and it sleeps from then on if it parks and says until when; a number that is no step comes first
+-- the run of the job that is out is settled, and it sleeps from then on if it parks and says until when
 abbrev pub SettlesUntil : Option (Step ℕ) → RunTimes → CoreView HostJob → Timers → Code → CoreView HostJob → Timers → Type 0
-SettlesUntil None times old timers told new after = (told ≡ code.BadNumber) × (new ≡ old) × (after ≡ timers)
-SettlesUntil (Some step) times old timers told new after =
-    SettlesNamed (λ before code behind. SettlesStep before (Some step) times.spent code behind) (name_out old.out) (sleep_of step times.until) old timers told new after
+SettlesUntil step times old = SettlesNamed (λ before code behind. SettlesStep before step times.spent code behind) step times.until (name_out old.out) old
 
 -- the job of a core alone whose timer is due next is woken, unless none is due by now
 abbrev pub WakesDueAlone : ℕ → CoreView HostJob → Timers → Code → CoreView HostJob → Timers → Type 0

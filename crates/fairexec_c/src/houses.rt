@@ -6,7 +6,7 @@ ghost use Rattle.fairexec_c.specs.Handles.{Frees, OnCore};
 ghost use Rattle.fairexec_c.specs.Houses.{EndsIn, EndsInto, OpensHouse, OpensOn, TakesFrom, TakesInto};
 ghost use Rattle.host_calls.specs.Members.{IsHouse};
 
-use crate::seat::{SeatHandle, put, take};
+use crate::handle::SeatHandle;
 use host_calls::house::{Config, KeptHouse};
 use host_calls::verdicts::VerdictTold;
 use host_calls::{Code, Member, number};
@@ -17,9 +17,9 @@ use std::alloc::Global;
 pub extern "C" fn fx_house_open(alloc: Global, house: &mut SeatHandle, config: &Config) -> u32
     ensures { OpensHouse house.old.value config.now result house.new.value }
 {
-    match take(alloc, house) {
+    match house.take(alloc) {
         Some(member) => {
-            put(house, member);
+            house.put(member);
             number(Code::Occupied)
         }
         None => number(open(alloc, house, config)),
@@ -34,7 +34,7 @@ fn open(alloc: Global, house: &mut SeatHandle, config: &Config) -> Code
     match KeptHouse::open(alloc, config) {
         Ok(kept) => match Box::new(alloc, Member::House(kept)) {
             Ok(member) => {
-                put(house, member);
+                house.put(member);
                 Code::Ok
             }
             Err(_) => Code::NoMemory,
@@ -53,7 +53,7 @@ pub extern "C" fn fx_house_take(
 ) -> u32
     ensures { TakesFrom house.old.value seat.old.value actor.old result house.new.value seat.new.value actor.new }
 {
-    let Some(mut kept) = take(alloc, house) else {
+    let Some(mut kept) = house.take(alloc) else {
         return number(Code::Empty);
     };
     let code = if kept.is_house() {
@@ -61,7 +61,7 @@ pub extern "C" fn fx_house_take(
     } else {
         Code::Empty
     };
-    put(house, kept);
+    house.put(kept);
     number(code)
 }
 
@@ -70,13 +70,13 @@ fn take_into(alloc: Global, kept: &mut Member, seat: &mut SeatHandle, actor: &mu
     requires { IsHouse kept.old }
     ensures { TakesInto kept.old seat.old.value actor.old result kept.new seat.new.value actor.new }
 {
-    if let Some(other) = take(alloc, seat) {
-        put(seat, other);
+    if let Some(other) = seat.take(alloc) {
+        seat.put(other);
         return Code::Occupied;
     }
     match kept.take_seat(alloc) {
         Ok((member, number)) => {
-            put(seat, member);
+            seat.put(member);
             *actor = number;
             Code::Ok
         }
@@ -89,11 +89,11 @@ fn take_into(alloc: Global, kept: &mut Member, seat: &mut SeatHandle, actor: &mu
 pub extern "C" fn fx_house_end(alloc: Global, house: &mut SeatHandle, seat: &mut SeatHandle) -> u32
     ensures { EndsIn house.old.value seat.old.value result house.new.value seat.new.value }
 {
-    let Some(mut kept) = take(alloc, house) else {
+    let Some(mut kept) = house.take(alloc) else {
         return number(Code::Empty);
     };
     let code = end_into(alloc, &mut kept, seat);
-    put(house, kept);
+    house.put(kept);
     number(code)
 }
 
@@ -101,13 +101,13 @@ pub extern "C" fn fx_house_end(alloc: Global, house: &mut SeatHandle, seat: &mut
 fn end_into(alloc: Global, kept: &mut Member, seat: &mut SeatHandle) -> Code
     ensures { EndsInto kept.old seat.old.value result kept.new seat.new.value }
 {
-    let Some(member) = take(alloc, seat) else {
+    let Some(member) = seat.take(alloc) else {
         return Code::Empty;
     };
     match kept.end_seat(alloc, member) {
         Ok(()) => Code::Ok,
         Err((code, member)) => {
-            put(seat, member);
+            seat.put(member);
             code
         }
     }
@@ -123,11 +123,11 @@ pub extern "C" fn fx_house_audit(
     ensures house { OnCore house.old.value house.new.value result (λ old told new. AuditsTold old verdict.old told verdict.new new) }
     ensures empty { house.old.value ≡ None → verdict.new ≡ verdict.old }
 {
-    let Some(mut member) = take(alloc, house) else {
+    let Some(mut member) = house.take(alloc) else {
         return number(Code::Empty);
     };
     let code = member.audit(alloc, verdict);
-    put(house, member);
+    house.put(member);
     number(code)
 }
 
@@ -143,11 +143,11 @@ pub extern "C" fn fx_house_text(
     ensures house { OnCore house.old.value house.new.value result (λ old told new. ReadsTold old from bytes.old count.old told new bytes.new count.new) }
     ensures empty { house.old.value ≡ None → (bytes.new ≡ bytes.old) × (count.new ≡ count.old) }
 {
-    let Some(mut member) = take(alloc, house) else {
+    let Some(mut member) = house.take(alloc) else {
         return number(Code::Empty);
     };
     let code = member.read(alloc, from, bytes, count);
-    put(house, member);
+    house.put(member);
     number(code)
 }
 
@@ -171,7 +171,7 @@ pub extern "C" fn fx_seat_free(alloc: Global, seat: &mut SeatHandle) -> u32
 pub(crate) fn free(alloc: Global, seat: &mut SeatHandle) -> u32
     ensures { Frees seat.old.value result seat.new.value }
 {
-    match take(alloc, seat) {
+    match seat.take(alloc) {
         Some(member) => {
             drop(member);
             number(Code::Ok)

@@ -18,13 +18,12 @@ pub mod handle;
 pub mod hosted;
 pub mod houses;
 pub mod orders;
-pub mod seat;
 pub mod seats;
 pub mod sends;
 mod sleeping;
 pub mod timers;
 
-use crate::handle::{Handle, put, take};
+use crate::handle::Handle;
 use crate::hosted::open_for;
 use host_calls::figures::{CoreFigures, QueueFigures};
 use host_calls::{Code, number};
@@ -43,9 +42,9 @@ pub extern "C" fn fx_version() -> u32
 pub extern "C" fn fx_open(alloc: Global, core: &mut Handle, jobs: u32) -> u32
     ensures { Opens core.old.value jobs result core.new.value }
 {
-    match take(alloc, core) {
+    match core.take(alloc) {
         Some(hosted) => {
-            put(core, hosted);
+            core.put(hosted);
             number(Code::Occupied)
         }
         None => number(fill(alloc, core, jobs)),
@@ -59,7 +58,7 @@ fn fill(alloc: Global, core: &mut Handle, jobs: u32) -> Code
 {
     match open_for(alloc, jobs) {
         Ok(hosted) => {
-            put(core, hosted);
+            core.put(hosted);
             Code::Ok
         }
         Err(code) => code,
@@ -71,7 +70,7 @@ fn fill(alloc: Global, core: &mut Handle, jobs: u32) -> Code
 pub extern "C" fn fx_free(alloc: Global, core: &mut Handle) -> u32
     ensures { Frees core.old.value result core.new.value }
 {
-    match take(alloc, core) {
+    match core.take(alloc) {
         Some(hosted) => {
             drop(hosted);
             number(Code::Ok)
@@ -86,11 +85,11 @@ pub extern "C" fn fx_create(alloc: Global, core: &mut Handle, shares: u32, queue
     ensures core { OnCore core.old.value core.new.value result (λ old told new. MakesQueue old shares queue.old told queue.new new) }
     ensures empty { core.old.value ≡ None → queue.new ≡ queue.old }
 {
-    let Some(mut hosted) = take(alloc, core) else {
+    let Some(mut hosted) = core.take(alloc) else {
         return number(Code::Empty);
     };
     let code = hosted.create(shares, queue);
-    put(core, hosted);
+    core.put(hosted);
     number(code)
 }
 
@@ -99,11 +98,11 @@ pub extern "C" fn fx_create(alloc: Global, core: &mut Handle, shares: u32, queue
 pub extern "C" fn fx_set_shares(alloc: Global, core: &mut Handle, queue: u32, shares: u32) -> u32
     ensures { OnCore core.old.value core.new.value result (λ old told new. Reweighs old queue shares told new) }
 {
-    let Some(mut hosted) = take(alloc, core) else {
+    let Some(mut hosted) = core.take(alloc) else {
         return number(Code::Empty);
     };
     let code = hosted.set_shares(queue, shares);
-    put(core, hosted);
+    core.put(hosted);
     number(code)
 }
 
@@ -112,11 +111,11 @@ pub extern "C" fn fx_set_shares(alloc: Global, core: &mut Handle, queue: u32, sh
 pub extern "C" fn fx_submit(alloc: Global, core: &mut Handle, queue: u32, job: u64) -> u32
     ensures { OnCore core.old.value core.new.value result (λ old told new. Submits old queue job told new) }
 {
-    let Some(mut hosted) = take(alloc, core) else {
+    let Some(mut hosted) = core.take(alloc) else {
         return number(Code::Empty);
     };
     let code = hosted.submit(queue, job);
-    put(core, hosted);
+    core.put(hosted);
     number(code)
 }
 
@@ -132,11 +131,11 @@ pub extern "C" fn fx_submit_numbered(
     ensures core { OnCore core.old.value core.new.value result (λ old told new. Submits old queue job told new × TellsNumber old order.old told order.new) }
     ensures empty { core.old.value ≡ None → order.new ≡ order.old }
 {
-    let Some(mut hosted) = take(alloc, core) else {
+    let Some(mut hosted) = core.take(alloc) else {
         return number(Code::Empty);
     };
     let code = hosted.submit_numbered(queue, job, order);
-    put(core, hosted);
+    core.put(hosted);
     number(code)
 }
 
@@ -145,11 +144,11 @@ pub extern "C" fn fx_submit_numbered(
 pub extern "C" fn fx_wake(alloc: Global, core: &mut Handle, order: u64) -> u32
     ensures { OnCore core.old.value core.new.value result (λ old told new. WakesNumber old order told new) }
 {
-    let Some(mut hosted) = take(alloc, core) else {
+    let Some(mut hosted) = core.take(alloc) else {
         return number(Code::Empty);
     };
     let code = hosted.wake(order);
-    put(core, hosted);
+    core.put(hosted);
     number(code)
 }
 
@@ -159,11 +158,11 @@ pub extern "C" fn fx_next(alloc: Global, core: &mut Handle, job: &mut u64) -> u3
     ensures core { OnCore core.old.value core.new.value result (λ old told new. Nexts old job.old told job.new new) }
     ensures empty { core.old.value ≡ None → job.new ≡ job.old }
 {
-    let Some(mut hosted) = take(alloc, core) else {
+    let Some(mut hosted) = core.take(alloc) else {
         return number(Code::Empty);
     };
     let code = hosted.next(job);
-    put(core, hosted);
+    core.put(hosted);
     number(code)
 }
 
@@ -172,11 +171,11 @@ pub extern "C" fn fx_next(alloc: Global, core: &mut Handle, job: &mut u64) -> u3
 pub extern "C" fn fx_settle(alloc: Global, core: &mut Handle, step: u32, spent: u64) -> u32
     ensures { OnCore core.old.value core.new.value result (λ old told new. SettlesStep old (step_of step) spent told new) }
 {
-    let Some(mut hosted) = take(alloc, core) else {
+    let Some(mut hosted) = core.take(alloc) else {
         return number(Code::Empty);
     };
     let code = hosted.settle(step, spent);
-    put(core, hosted);
+    core.put(hosted);
     number(code)
 }
 
@@ -185,11 +184,11 @@ pub extern "C" fn fx_settle(alloc: Global, core: &mut Handle, step: u32, spent: 
 pub extern "C" fn fx_close_queue(alloc: Global, core: &mut Handle, queue: u32, mode: u32) -> u32
     ensures { OnCore core.old.value core.new.value result (λ old told new. ClosesLine old queue (mode_of_number mode) told new) }
 {
-    let Some(mut hosted) = take(alloc, core) else {
+    let Some(mut hosted) = core.take(alloc) else {
         return number(Code::Empty);
     };
     let code = hosted.close_queue(queue, mode);
-    put(core, hosted);
+    core.put(hosted);
     number(code)
 }
 
@@ -198,11 +197,11 @@ pub extern "C" fn fx_close_queue(alloc: Global, core: &mut Handle, queue: u32, m
 pub extern "C" fn fx_close(alloc: Global, core: &mut Handle, mode: u32) -> u32
     ensures { OnCore core.old.value core.new.value result (λ old told new. ClosesAll old (mode_of_number mode) told new) }
 {
-    let Some(mut hosted) = take(alloc, core) else {
+    let Some(mut hosted) = core.take(alloc) else {
         return number(Code::Empty);
     };
     let code = hosted.close(mode);
-    put(core, hosted);
+    core.put(hosted);
     number(code)
 }
 
@@ -212,11 +211,11 @@ pub extern "C" fn fx_stats(alloc: Global, core: &mut Handle, stats: &mut CoreFig
     ensures core { OnCore core.old.value core.new.value result (λ old told new. (new ≡ old) × TellsCore old stats.old told stats.new) }
     ensures empty { core.old.value ≡ None → stats.new ≡ stats.old }
 {
-    let Some(hosted) = take(alloc, core) else {
+    let Some(hosted) = core.take(alloc) else {
         return number(Code::Empty);
     };
     let code = hosted.tell(stats);
-    put(core, hosted);
+    core.put(hosted);
     number(code)
 }
 
@@ -231,10 +230,10 @@ pub extern "C" fn fx_stats_of_queue(
     ensures core { OnCore core.old.value core.new.value result (λ old told new. (new ≡ old) × TellsQueue old queue stats.old told stats.new) }
     ensures empty { core.old.value ≡ None → stats.new ≡ stats.old }
 {
-    let Some(hosted) = take(alloc, core) else {
+    let Some(hosted) = core.take(alloc) else {
         return number(Code::Empty);
     };
     let code = hosted.tell_queue(queue, stats);
-    put(core, hosted);
+    core.put(hosted);
     number(code)
 }

@@ -16,7 +16,7 @@ ghost use Rattle.host_calls.specs.Turns.{NextsTold, SettlesTold, StepsTold, step
 ghost use Rattle.host_text.specs.declared.part.Form.TheVariants as form;
 ghost use Rattle.fairexec_c.specs.Handles.{OnCore};
 
-use crate::seat::{SeatHandle, put, take};
+use crate::handle::SeatHandle;
 use host_calls::figures::{CoreFigures, QueueFigures};
 use host_calls::names::Name;
 use host_calls::outcomes::OutcomeTold;
@@ -32,11 +32,11 @@ pub extern "C" fn fx_seat_next(alloc: Global, seat: &mut SeatHandle, turn: &mut 
         members.OnCore old (turn.new ≡ turn.old) told new (λ before code after. NextsTold before turn.old code turn.new after)) }
     ensures empty { seat.old.value ≡ None → turn.new ≡ turn.old }
 {
-    let Some(mut member) = take(alloc, seat) else {
+    let Some(mut member) = seat.take(alloc) else {
         return number(Code::Empty);
     };
     let code = member.next(turn);
-    put(seat, member);
+    seat.put(member);
     number(code)
 }
 
@@ -52,11 +52,11 @@ pub extern "C" fn fx_seat_settle(
     ensures { OnCore seat.old.value seat.new.value result (λ old told new.
         members.OnCore old (Unit {0}) told new (λ before code after. SettlesTold before (step_of step answer) spent code after)) }
 {
-    let Some(mut member) = take(alloc, seat) else {
+    let Some(mut member) = seat.take(alloc) else {
         return number(Code::Empty);
     };
     let code = member.settle(step, answer, spent);
-    put(seat, member);
+    seat.put(member);
     number(code)
 }
 
@@ -74,11 +74,11 @@ pub extern "C" fn fx_seat_step(
         members.OnCore old (turn.new ≡ turn.old) told new (λ before code after. StepsTold before (step_of step answer) spent turn.old code turn.new after)) }
     ensures empty { seat.old.value ≡ None → turn.new ≡ turn.old }
 {
-    let Some(mut member) = take(alloc, seat) else {
+    let Some(mut member) = seat.take(alloc) else {
         return number(Code::Empty);
     };
     let code = member.step(step, answer, spent, turn);
-    put(seat, member);
+    seat.put(member);
     number(code)
 }
 
@@ -88,11 +88,11 @@ pub extern "C" fn fx_seat_deliver(alloc: Global, seat: &mut SeatHandle, sender: 
     ensures { OnCore seat.old.value seat.new.value result (λ old told new.
         members.OnCore old (Unit {0}) told new (λ before code after. DeliversTold sender before code after)) }
 {
-    let Some(mut member) = take(alloc, seat) else {
+    let Some(mut member) = seat.take(alloc) else {
         return number(Code::Empty);
     };
     let code = member.deliver(sender);
-    put(seat, member);
+    seat.put(member);
     number(code)
 }
 
@@ -102,11 +102,11 @@ pub extern "C" fn fx_seat_close(alloc: Global, seat: &mut SeatHandle, mode: u32)
     ensures { OnCore seat.old.value seat.new.value result (λ old told new.
         members.OnCore old (Unit {0}) told new (λ before code after. ClosesTold (mode_of_number mode) before code after)) }
 {
-    let Some(mut member) = take(alloc, seat) else {
+    let Some(mut member) = seat.take(alloc) else {
         return number(Code::Empty);
     };
     let code = member.close(mode);
-    put(seat, member);
+    seat.put(member);
     number(code)
 }
 
@@ -116,11 +116,11 @@ pub extern "C" fn fx_seat_shut(alloc: Global, seat: &mut SeatHandle, sender: u32
     ensures { OnCore seat.old.value seat.new.value result (λ old told new.
         members.OnCore old (Unit {0}) told new (λ before code after. ShutsTold sender before code after)) }
 {
-    let Some(mut member) = take(alloc, seat) else {
+    let Some(mut member) = seat.take(alloc) else {
         return number(Code::Empty);
     };
     let code = member.shut(sender);
-    put(seat, member);
+    seat.put(member);
     number(code)
 }
 
@@ -130,11 +130,11 @@ pub extern "C" fn fx_seat_drained(alloc: Global, seat: &mut SeatHandle) -> u32
     ensures { OnCore seat.old.value seat.new.value result (λ old told new.
         members.OnCore old (Unit {0}) told new (λ before code after. (after ≡ before) × IsTold before code)) }
 {
-    let Some(mut member) = take(alloc, seat) else {
+    let Some(mut member) = seat.take(alloc) else {
         return number(Code::Empty);
     };
     let code = member.drained();
-    put(seat, member);
+    seat.put(member);
     number(code)
 }
 
@@ -149,11 +149,11 @@ pub extern "C" fn fx_seat_collect(
     ensures seat { OnCore seat.old.value seat.new.value result (λ old told new. CollectsTold old core count.old told count.new new) }
     ensures empty { seat.old.value ≡ None → count.new ≡ count.old }
 {
-    let Some(mut member) = take(alloc, seat) else {
+    let Some(mut member) = seat.take(alloc) else {
         return number(Code::Empty);
     };
     let code = member.collect(core, count);
-    put(seat, member);
+    seat.put(member);
     number(code)
 }
 
@@ -168,11 +168,11 @@ pub extern "C" fn fx_seat_redeem(
     ensures seat { OnCore seat.old.value seat.new.value result (λ old told new. RedeemsTold old name.now outcome.old told outcome.new new) }
     ensures empty { seat.old.value ≡ None → outcome.new ≡ outcome.old }
 {
-    let Some(mut member) = take(alloc, seat) else {
+    let Some(mut member) = seat.take(alloc) else {
         return number(Code::Empty);
     };
     let code = member.redeem(name, outcome);
-    put(seat, member);
+    seat.put(member);
     number(code)
 }
 
@@ -181,11 +181,11 @@ pub extern "C" fn fx_seat_redeem(
 pub extern "C" fn fx_seat_detach(alloc: Global, seat: &mut SeatHandle, name: &Name) -> u32
     ensures { OnCore seat.old.value seat.new.value result (λ old told new. DetachesTold old name.now told new) }
 {
-    let Some(mut member) = take(alloc, seat) else {
+    let Some(mut member) = seat.take(alloc) else {
         return number(Code::Empty);
     };
     let code = member.detach(name);
-    put(seat, member);
+    seat.put(member);
     number(code)
 }
 
@@ -200,11 +200,11 @@ pub extern "C" fn fx_seat_pass_on(
     ensures seat { OnCore seat.old.value seat.new.value result (λ old told new. PassesTold old bytes.old count.old told new bytes.new count.new) }
     ensures empty { seat.old.value ≡ None → (bytes.new ≡ bytes.old) × (count.new ≡ count.old) }
 {
-    let Some(mut member) = take(alloc, seat) else {
+    let Some(mut member) = seat.take(alloc) else {
         return number(Code::Empty);
     };
     let code = member.pass_on(alloc, bytes, count);
-    put(seat, member);
+    seat.put(member);
     number(code)
 }
 
@@ -219,11 +219,11 @@ pub extern "C" fn fx_seat_notes(
     ensures seat { OnCore seat.old.value seat.new.value result (λ old told new. (new ≡ old) × NotesTold old kept.old free_notes.old told kept.new free_notes.new) }
     ensures empty { seat.old.value ≡ None → (kept.new ≡ kept.old) × (free_notes.new ≡ free_notes.old) }
 {
-    let Some(member) = take(alloc, seat) else {
+    let Some(member) = seat.take(alloc) else {
         return number(Code::Empty);
     };
     let code = member.notes(kept, free_notes);
-    put(seat, member);
+    seat.put(member);
     number(code)
 }
 
@@ -238,11 +238,11 @@ pub extern "C" fn fx_seat_came(
     ensures seat { OnCore seat.old.value seat.new.value result (λ old told new. (new ≡ old) × CameTold old place name.old told name.new) }
     ensures empty { seat.old.value ≡ None → name.new ≡ name.old }
 {
-    let Some(member) = take(alloc, seat) else {
+    let Some(member) = seat.take(alloc) else {
         return number(Code::Empty);
     };
     let code = member.came(place, name);
-    put(seat, member);
+    seat.put(member);
     number(code)
 }
 
@@ -261,11 +261,11 @@ pub extern "C" fn fx_seat_copy(
         (new ≡ old) × CopiesTold old form.Text from most bytes.old count.old notes.old told bytes.new count.new notes.new) }
     ensures empty { seat.old.value ≡ None → (bytes.new ≡ bytes.old) × (count.new ≡ count.old) × (notes.new ≡ notes.old) }
 {
-    let Some(member) = take(alloc, seat) else {
+    let Some(member) = seat.take(alloc) else {
         return number(Code::Empty);
     };
     let code = member.copy(alloc, Form::Text, from, most, bytes, count, notes);
-    put(seat, member);
+    seat.put(member);
     number(code)
 }
 
@@ -286,11 +286,11 @@ pub extern "C" fn fx_seat_copy_bytes(
         (new ≡ old) × CopiesTold old (form.Bytes before) from most bytes.old count.old notes.old told bytes.new count.new notes.new) }
     ensures empty { seat.old.value ≡ None → (bytes.new ≡ bytes.old) × (count.new ≡ count.old) × (notes.new ≡ notes.old) }
 {
-    let Some(member) = take(alloc, seat) else {
+    let Some(member) = seat.take(alloc) else {
         return number(Code::Empty);
     };
     let code = member.copy(alloc, Form::Bytes(before), from, most, bytes, count, notes);
-    put(seat, member);
+    seat.put(member);
     number(code)
 }
 
@@ -300,11 +300,11 @@ pub extern "C" fn fx_seat_forget(alloc: Global, seat: &mut SeatHandle, count: &m
     ensures seat { OnCore seat.old.value seat.new.value result (λ old told new. ForgetsTold old count.old told count.new new) }
     ensures empty { seat.old.value ≡ None → count.new ≡ count.old }
 {
-    let Some(mut member) = take(alloc, seat) else {
+    let Some(mut member) = seat.take(alloc) else {
         return number(Code::Empty);
     };
     let code = member.forget(count);
-    put(seat, member);
+    seat.put(member);
     number(code)
 }
 
@@ -313,11 +313,11 @@ pub extern "C" fn fx_seat_forget(alloc: Global, seat: &mut SeatHandle, count: &m
 pub extern "C" fn fx_seat_shows(alloc: Global, seat: &mut SeatHandle) -> u32
     ensures { OnCore seat.old.value seat.new.value result (λ old told new. ShowsTold old told new) }
 {
-    let Some(mut member) = take(alloc, seat) else {
+    let Some(mut member) = seat.take(alloc) else {
         return number(Code::Empty);
     };
     let code = member.shows();
-    put(seat, member);
+    seat.put(member);
     number(code)
 }
 
@@ -332,11 +332,11 @@ pub extern "C" fn fx_seat_stats(
         members.OnCore old (stats.new ≡ stats.old) told new (λ before code after. (after ≡ before) × SeatTells before stats.old code stats.new)) }
     ensures empty { seat.old.value ≡ None → stats.new ≡ stats.old }
 {
-    let Some(mut member) = take(alloc, seat) else {
+    let Some(mut member) = seat.take(alloc) else {
         return number(Code::Empty);
     };
     let code = member.stats(stats);
-    put(seat, member);
+    seat.put(member);
     number(code)
 }
 
@@ -352,10 +352,10 @@ pub extern "C" fn fx_seat_stats_of_queue(
         members.OnCore old (stats.new ≡ stats.old) told new (λ before code after. (after ≡ before) × SeatTellsQueue before queue stats.old code stats.new)) }
     ensures empty { seat.old.value ≡ None → stats.new ≡ stats.old }
 {
-    let Some(mut member) = take(alloc, seat) else {
+    let Some(mut member) = seat.take(alloc) else {
         return number(Code::Empty);
     };
     let code = member.stats_of_queue(queue, stats);
-    put(seat, member);
+    seat.put(member);
     number(code)
 }

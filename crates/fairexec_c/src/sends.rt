@@ -6,7 +6,7 @@ ghost use Rattle.host_calls.specs.declared.code.Code.{Code};
 ghost use Rattle.host_calls.specs.Orders.{IsCloseOrder, IsCoreOrder, IsCreateOrder, IsJobOrder, IsSharesOrder, IsWakeOrder, mode_of_number};
 ghost use Rattle.fairexec_c.specs.Seats.{Submits};
 
-use crate::seat::{SeatHandle, put, take};
+use crate::handle::SeatHandle;
 use base_words::Order;
 use host_calls::names::Name;
 use host_calls::orders::{
@@ -25,11 +25,11 @@ fn send(
 ) -> u32
     ensures { Submits seat.old.value to order name.old result name.new seat.new.value }
 {
-    let Some(mut member) = take(alloc, seat) else {
+    let Some(mut member) = seat.take(alloc) else {
         return number(Code::Empty);
     };
     let code = member.send(to, order, name);
-    put(seat, member);
+    seat.put(member);
     number(code)
 }
 

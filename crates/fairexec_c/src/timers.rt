@@ -11,10 +11,9 @@ ghost use Rattle.fairexec_c.specs.Handles.{Frees, OnCore};
 ghost use Rattle.fairexec_c.specs.Running.{step_of};
 ghost use Rattle.fairexec_c.specs.Sleeping.{OnBoth, OnTimers, Opens, OpensInto, SettlesUntil, WakesDueAlone};
 
-use crate::handle::{self, Handle};
+use crate::handle::{Handle, SeatHandle};
 use crate::hosted::Hosted;
 use crate::houses::free;
-use crate::seat::{SeatHandle, put, take};
 use host_calls::{Code, Member, Sleepers, number};
 use std::alloc::Global;
 
@@ -23,9 +22,9 @@ use std::alloc::Global;
 pub extern "C" fn fx_timers_open(alloc: Global, timers: &mut SeatHandle, jobs: u32) -> u32
     ensures { Opens timers.old.value jobs result timers.new.value }
 {
-    match take(alloc, timers) {
+    match timers.take(alloc) {
         Some(member) => {
-            put(timers, member);
+            timers.put(member);
             number(Code::Occupied)
         }
         None => number(fill(alloc, timers, jobs)),
@@ -40,7 +39,7 @@ fn fill(alloc: Global, timers: &mut SeatHandle, jobs: u32) -> Code
     match Sleepers::open(alloc, jobs) {
         Ok(sleepers) => match Box::new(alloc, Member::Sleepers(sleepers)) {
             Ok(member) => {
-                put(timers, member);
+                timers.put(member);
                 Code::Ok
             }
             Err(_) => Code::NoMemory,
@@ -64,11 +63,11 @@ pub extern "C" fn fx_next_time(alloc: Global, timers: &mut SeatHandle, time: &mu
         members.OnSleepers old (time.new ≡ time.old) told new (λ before code after. TellsNext before time.old code time.new × (after ≡ before))) }
     ensures empty { timers.old.value ≡ None → time.new ≡ time.old }
 {
-    let Some(member) = take(alloc, timers) else {
+    let Some(member) = timers.take(alloc) else {
         return number(Code::Empty);
     };
     let code = member.next_time(time);
-    put(timers, member);
+    timers.put(member);
     number(code)
 }
 
@@ -86,11 +85,11 @@ pub extern "C" fn fx_settle_until(
         OnTimers timers.old.value (new ≡ old) told timers.new.value (λ before code after. SettlesUntil (step_of step) (record { spent = spent; until = time }) old before code new after)) }
     ensures empty { core.old.value ≡ None → timers.new.value ≡ timers.old.value }
 {
-    let Some(mut hosted) = handle::take(alloc, core) else {
+    let Some(mut hosted) = core.take(alloc) else {
         return number(Code::Empty);
     };
     let code = settle_alone(alloc, &mut hosted, timers, step, spent, time);
-    handle::put(core, hosted);
+    core.put(hosted);
     number(code)
 }
 
@@ -105,11 +104,11 @@ fn settle_alone(
 ) -> Code
     ensures { OnTimers timers.old.value (hosted.new ≡ hosted.old) result timers.new.value (λ before code after. SettlesUntil (step_of step) (record { spent = spent; until = time }) hosted.old before code hosted.new after) }
 {
-    let Some(mut member) = take(alloc, timers) else {
+    let Some(mut member) = timers.take(alloc) else {
         return Code::Empty;
     };
     let code = hosted.settle_until(&mut member, step, spent, time);
-    put(timers, member);
+    timers.put(member);
     code
 }
 
@@ -125,11 +124,11 @@ pub extern "C" fn fx_wake_due(
         OnTimers timers.old.value (new ≡ old) told timers.new.value (λ before code after. WakesDueAlone now old before code new after)) }
     ensures empty { core.old.value ≡ None → timers.new.value ≡ timers.old.value }
 {
-    let Some(mut hosted) = handle::take(alloc, core) else {
+    let Some(mut hosted) = core.take(alloc) else {
         return number(Code::Empty);
     };
     let code = wake_alone(alloc, &mut hosted, timers, now);
-    handle::put(core, hosted);
+    core.put(hosted);
     number(code)
 }
 
@@ -137,11 +136,11 @@ pub extern "C" fn fx_wake_due(
 fn wake_alone(alloc: Global, hosted: &mut Hosted, timers: &mut SeatHandle, now: u64) -> Code
     ensures { OnTimers timers.old.value (hosted.new ≡ hosted.old) result timers.new.value (λ before code after. WakesDueAlone now hosted.old before code hosted.new after) }
 {
-    let Some(mut member) = take(alloc, timers) else {
+    let Some(mut member) = timers.take(alloc) else {
         return Code::Empty;
     };
     let code = hosted.wake_due(&mut member, now);
-    put(timers, member);
+    timers.put(member);
     code
 }
 
@@ -160,11 +159,11 @@ pub extern "C" fn fx_seat_settle_until(
         OnBoth old timers.old.value told new timers.new.value (λ at before code gets after. sleepers.SettlesUntil (turns.step_of step answer) (record { spent = spent; until = time }) at before code gets after)) }
     ensures empty { seat.old.value ≡ None → timers.new.value ≡ timers.old.value }
 {
-    let Some(mut core) = take(alloc, seat) else {
+    let Some(mut core) = seat.take(alloc) else {
         return number(Code::Empty);
     };
     let code = settle_in_house(alloc, &mut core, timers, step, answer, spent, time);
-    put(seat, core);
+    seat.put(core);
     number(code)
 }
 
@@ -180,11 +179,11 @@ fn settle_in_house(
 ) -> Code
     ensures { OnBoth core.old timers.old.value result core.new timers.new.value (λ at before code gets after. sleepers.SettlesUntil (turns.step_of step answer) (record { spent = spent; until = time }) at before code gets after) }
 {
-    let Some(mut member) = take(alloc, timers) else {
+    let Some(mut member) = timers.take(alloc) else {
         return Code::Empty;
     };
     let code = core.settle_until(&mut member, step, answer, spent, time);
-    put(timers, member);
+    timers.put(member);
     code
 }
 
@@ -200,11 +199,11 @@ pub extern "C" fn fx_seat_wake_due(
         OnBoth old timers.old.value told new timers.new.value (λ at before code gets after. WakesDueTold now at before code gets after)) }
     ensures empty { seat.old.value ≡ None → timers.new.value ≡ timers.old.value }
 {
-    let Some(mut core) = take(alloc, seat) else {
+    let Some(mut core) = seat.take(alloc) else {
         return number(Code::Empty);
     };
     let code = wake_in_house(alloc, &mut core, timers, now);
-    put(seat, core);
+    seat.put(core);
     number(code)
 }
 
@@ -212,10 +211,10 @@ pub extern "C" fn fx_seat_wake_due(
 fn wake_in_house(alloc: Global, core: &mut Member, timers: &mut SeatHandle, now: u64) -> Code
     ensures { OnBoth core.old timers.old.value result core.new timers.new.value (λ at before code gets after. WakesDueTold now at before code gets after) }
 {
-    let Some(mut member) = take(alloc, timers) else {
+    let Some(mut member) = timers.take(alloc) else {
         return Code::Empty;
     };
     let code = core.wake_due(&mut member, now);
-    put(timers, member);
+    timers.put(member);
     code
 }

@@ -3,7 +3,7 @@ use Rattle.std.proofs.Common.{◌≡◌, ℕ, zero, suc, Option, Some, None, [],
 use Rattle.std.specs.Prelude.{slice_set, true}
 use Rattle.base_jobs.specs.declared.job.Step.TheVariants.{Yield}
 use Rattle.base_words.specs.declared.names.JobId.{JobId}
-use Rattle.core_timers.specs.Timers.{Timer, Timers, timer_at}
+use Rattle.core_timers.specs.Timers.{HasName, Timers, timer_at}
 use Rattle.host_calls.specs.declared.code.Code.TheVariants as code
 use Rattle.host_calls.specs.declared.member.Member.{Member}
 use Rattle.host_calls.specs.declared.member.Member.TheVariants as member
@@ -17,19 +17,10 @@ one = record { from = 0; to = 0; number = 1 }
 abbrev pub set : Timers
 set = Some (record { name = one; time = 5 }) ∷ []
 
--- what tells a timer from none
-abbrev time_of : Option Timer → ℕ
-time_of None = 0
-time_of (Some timer) = timer.time
-
-abbrev number_of : Option Timer → ℕ
-number_of None = 0
-number_of (Some timer) = timer.name.number
-
 -- the timer is gone where it stays
-stays : (key : ℕ) → number_of (timer_at set key) ≡ 1 → set ≡ slice_set set key None → ⊥
-stays zero had same = let five : 5 ≡ 0 = ap (λ timers. time_of (timer_at timers 0)) same in omega (arith, five)
-stays (suc key) had same = let one : 0 ≡ 1 = had in omega (arith, one)
+stays : (key : ℕ) → HasName set key one → set ≡ slice_set set key None → ⊥
+stays zero had same = let gone : timer_at set 0 ≡ None = ap (λ timers. timer_at timers 0) same in cc
+stays (suc key) had same = let none : timer_at set (suc key) ≡ Some (record { name = one; time = had.0 }) = had.1 in cc
 
 -- timers for no job are opened
 pub none_are_opened : (new : Option Timers) → OpensTimers 0 code.Ok new → ⊥
@@ -52,7 +43,7 @@ sleeper_has_no_timer told = let within = told.within in omega (arith, within)
 
 -- the timer of a done job stays
 pub timer_outlives_its_job : Disarms code.Done one set set → ⊥
-timer_outlives_its_job told = ⊎_elim (λ forgets. stays forgets.key (ap number_of forgets.had.1) forgets.after) (λ lacks. lacks.0 0 (5, refl)) told
+timer_outlives_its_job told = ⊎_elim (λ forgets. stays forgets.key forgets.had forgets.after) (λ lacks. lacks.0 0 (5, refl)) told
 
 -- a job was woken, and its timer stays
 pub timer_stays_behind_its_wake : GoesIfWoken code.Ok one set set → ⊥
@@ -60,7 +51,7 @@ timer_stays_behind_its_wake told = timer_outlives_its_job (inl told)
 
 -- a refused wake takes its timer along
 pub refused_wake_loses_its_timer : GoesIfWoken code.Full one set (None ∷ []) → ⊥
-refused_wake_loses_its_timer told = let none : 0 ≡ 5 = ap (λ timers. time_of (timer_at timers 0)) told in omega (arith, none)
+refused_wake_loses_its_timer told = let none : None ≡ timer_at set 0 = ap (λ timers. timer_at timers 0) told in cc
 
 -- timers become a handle of something else
 pub timers_are_lost : (other : Member) → OnSleepers (member.Sleepers set) (Unit {0}) code.Ok other (λ before told after. ⊥) → ⊥

@@ -64,10 +64,11 @@ module _ {V : Type 0} where
   SettlesAsleep settles name sleep old timers told new after =
       (Arms sleep name timers false after × (told ≡ code.Full) × (new ≡ old)) ⊎ ((middle : Timers) × Arms sleep name timers true middle × settles old told new × Disarms told name middle after)
 
-  -- the same for the job of this name, which the host runs; without one there is nothing to settle
-  abbrev pub SettlesNamed : (V → Code → V → Type 0) → Option JobId → Option ℕ → V → Timers → Code → V → Timers → Type 0
-  SettlesNamed settles None sleep old timers told new after = (told ≡ code.NoJob) × (new ≡ old) × (after ≡ timers)
-  SettlesNamed settles (Some name) sleep old timers told new after = SettlesAsleep settles name sleep old timers told new after
+  -- the same for the job of this name, which the host runs; a number that is no step comes before a job that isn't there
+  abbrev pub SettlesNamed : (V → Code → V → Type 0) → Option (Step ℕ) → ℕ → Option JobId → V → Timers → Code → V → Timers → Type 0
+  SettlesNamed settles None until name old timers told new after = (told ≡ code.BadNumber) × (new ≡ old) × (after ≡ timers)
+  SettlesNamed settles (Some step) until None old timers told new after = (told ≡ code.NoJob) × (new ≡ old) × (after ≡ timers)
+  SettlesNamed settles (Some step) until (Some name) old timers told new after = SettlesAsleep settles name (sleep_of step until) old timers told new after
 
   module _ (queues : V → QueuesView HostJob) (wakes : JobId → V → Code → V → Type 0) where
     -- a timer of this name is due: its job is woken if it is parked; if it isn't any more, that is told, and the timer goes
@@ -93,8 +94,6 @@ pub record RunTimes : Type 0 where
   pub spent : ℕ
   pub until : ℕ
 
--- the run of the job that is out is settled; a number that is no step comes first
+-- the run of the job that is out is settled, and it sleeps from then on if it parks and says until when
 abbrev pub SettlesUntil : Option (Step ℕ) → RunTimes → HostedView → Timers → Code → HostedView → Timers → Type 0
-SettlesUntil None times old timers told new after = (told ≡ code.BadNumber) × (new ≡ old) × (after ≡ timers)
-SettlesUntil (Some step) times old timers told new after =
-    SettlesNamed (λ before code behind. SettlesTold before (Some step) times.spent code behind) (name_out old.recorded.core.out) (sleep_of step times.until) old timers told new after
+SettlesUntil step times old = SettlesNamed (λ before code behind. SettlesTold before step times.spent code behind) step times.until (name_out old.recorded.core.out) old

@@ -1,34 +1,12 @@
 -- A handle may go to another thread: what it holds names no thread.
-use mir.Raw.{raw}
-use base.Shift.{Keyless}
-use denote.Memory.{lone}
-use denote.RawPtr.{Ptr}
-use denote.Builtin.{RawPtr}
-use denote.Param.Send.{IsSend, struct_send, owning_send, sendable}
-use denote.Struct.Struct.{exits_of}
-use denote.Struct.Owning.{shape, fields, to}
-use Rattle.std_alloc.proofs.SendSync.{quiet, lies}
-use Rattle.std.proofs.Crossing.{frees, crosses}
+use denote.Param.Send.{IsSend, sendable}
+use Rattle.std.proofs.Crossing.{crosses}
 use Rattle.core_timeline.proofs.tree.Tree.TheLaws.TheKnot as tree
-use Rattle.std.specs.declared.alloc.Global.{Global}
-use Rattle.std.specs.declared.option.Option.{Option}
-use Rattle.std.specs.declared.option.Option.TheVariants.{None, Some}
-use Rattle.std.proofs.alloc.Global.TheSendSync as heap
-use Rattle.fairexec_c.specs.Handles.{held}
-use Rattle.fairexec_c.specs.contracts.hosted.Hosted as hosted
-use Rattle.fairexec_c.specs.contracts.handle.Handle.{the_row, the_type}
+use Rattle.fairexec_c.specs.contracts.handle.Handle.{the_row}
+use Rattle.fairexec_c.proofs.Handling.{alone, goes}
 
-address : IsSend RawPtr
-address = search sendable
-
-core : IsSend hosted.the_row
+core : IsSend alone.of
 core = search (crosses, tree.crosses, sendable) depth 60 fits 20000
 
-keyless : (alloc : Global) (at : Ptr) (value : Option hosted.the_row.Denot) → Keyless (held hosted.the_row alloc at value)
-keyless alloc at None = λ null. tt
-keyless alloc at (Some inside) = (lies hosted.the_row core at inside, frees.frees alloc (raw (lone hosted.the_row.mir)) at)
-
 pub send : IsSend the_row
-send =
-    owning_send the_type (address, (heap.the_field_send, tt)) (λ d. keyless d.alloc d.at d.value)
-    (λ k. quiet (to the_type) (exits_of k (fields the_type)) ((struct_send (shape the_type) (address, (heap.the_field_send, tt))).leaving k))
+send = goes alone core
