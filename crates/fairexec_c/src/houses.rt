@@ -53,16 +53,11 @@ pub extern "C" fn fx_house_take(
 ) -> u32
     ensures { TakesFrom house.old.value seat.old.value actor.old result house.new.value seat.new.value actor.new }
 {
-    let Some(mut kept) = house.take(alloc) else {
-        return number(Code::Empty);
-    };
-    let code = if kept.is_house() {
+    with!(house, alloc, kept => if kept.is_house() {
         take_into(alloc, &mut kept, seat, actor)
     } else {
         Code::Empty
-    };
-    house.put(kept);
-    number(code)
+    })
 }
 
 /// Moves the next seat of a house into a handle that has to be empty.
@@ -89,12 +84,7 @@ fn take_into(alloc: Global, kept: &mut Member, seat: &mut SeatHandle, actor: &mu
 pub extern "C" fn fx_house_end(alloc: Global, house: &mut SeatHandle, seat: &mut SeatHandle) -> u32
     ensures { EndsIn house.old.value seat.old.value result house.new.value seat.new.value }
 {
-    let Some(mut kept) = house.take(alloc) else {
-        return number(Code::Empty);
-    };
-    let code = end_into(alloc, &mut kept, seat);
-    house.put(kept);
-    number(code)
+    with!(house, alloc, kept => end_into(alloc, &mut kept, seat))
 }
 
 /// Ends the seat of a handle in a house.
@@ -123,12 +113,7 @@ pub extern "C" fn fx_house_audit(
     ensures house { OnCore house.old.value house.new.value result (λ old told new. AuditsTold old verdict.old told verdict.new new) }
     ensures empty { house.old.value ≡ None → verdict.new ≡ verdict.old }
 {
-    let Some(mut member) = house.take(alloc) else {
-        return number(Code::Empty);
-    };
-    let code = member.audit(alloc, verdict);
-    house.put(member);
-    number(code)
+    with!(house, alloc, member => member.audit(alloc, verdict))
 }
 
 /// Copies the text of the journals from this byte on, and tells how much was copied.
@@ -143,12 +128,7 @@ pub extern "C" fn fx_house_text(
     ensures house { OnCore house.old.value house.new.value result (λ old told new. ReadsTold old from bytes.old count.old told new bytes.new count.new) }
     ensures empty { house.old.value ≡ None → (bytes.new ≡ bytes.old) × (count.new ≡ count.old) }
 {
-    let Some(mut member) = house.take(alloc) else {
-        return number(Code::Empty);
-    };
-    let code = member.read(alloc, from, bytes, count);
-    house.put(member);
-    number(code)
+    with!(house, alloc, member => member.read(alloc, from, bytes, count))
 }
 
 /// Frees a house, with what is left in it.

@@ -13,6 +13,18 @@ ghost use Rattle.host_calls.specs.Orders.{mode_of_number};
 ghost use Rattle.fairexec_c.specs.Running.{Nexts, SettlesStep, step_of};
 ghost use Rattle.fairexec_c.specs.Waking.{TellsNumber, WakesNumber};
 
+/// Does this with what a handle holds, and answers the number of the code. An empty handle is told so.
+macro_rules! with {
+    ($handle:ident, $alloc:ident, $held:ident => $call:expr) => {{
+        let Some(mut $held) = $handle.take($alloc) else {
+            return number(Code::Empty);
+        };
+        let code = $call;
+        $handle.put($held);
+        number(code)
+    }};
+}
+
 pub mod figures;
 pub mod handle;
 pub mod hosted;
@@ -85,12 +97,7 @@ pub extern "C" fn fx_create(alloc: Global, core: &mut Handle, shares: u32, queue
     ensures core { OnCore core.old.value core.new.value result (λ old told new. MakesQueue old shares queue.old told queue.new new) }
     ensures empty { core.old.value ≡ None → queue.new ≡ queue.old }
 {
-    let Some(mut hosted) = core.take(alloc) else {
-        return number(Code::Empty);
-    };
-    let code = hosted.create(shares, queue);
-    core.put(hosted);
-    number(code)
+    with!(core, alloc, hosted => hosted.create(shares, queue))
 }
 
 /// Gives a queue these shares.
@@ -98,12 +105,7 @@ pub extern "C" fn fx_create(alloc: Global, core: &mut Handle, shares: u32, queue
 pub extern "C" fn fx_set_shares(alloc: Global, core: &mut Handle, queue: u32, shares: u32) -> u32
     ensures { OnCore core.old.value core.new.value result (λ old told new. Reweighs old queue shares told new) }
 {
-    let Some(mut hosted) = core.take(alloc) else {
-        return number(Code::Empty);
-    };
-    let code = hosted.set_shares(queue, shares);
-    core.put(hosted);
-    number(code)
+    with!(core, alloc, hosted => hosted.set_shares(queue, shares))
 }
 
 /// Hands a job to the tail of a queue.
@@ -111,12 +113,7 @@ pub extern "C" fn fx_set_shares(alloc: Global, core: &mut Handle, queue: u32, sh
 pub extern "C" fn fx_submit(alloc: Global, core: &mut Handle, queue: u32, job: u64) -> u32
     ensures { OnCore core.old.value core.new.value result (λ old told new. Submits old queue job told new) }
 {
-    let Some(mut hosted) = core.take(alloc) else {
-        return number(Code::Empty);
-    };
-    let code = hosted.submit(queue, job);
-    core.put(hosted);
-    number(code)
+    with!(core, alloc, hosted => hosted.submit(queue, job))
 }
 
 /// Hands a job to the tail of a queue, and tells the number by which it is woken.
@@ -131,12 +128,7 @@ pub extern "C" fn fx_submit_numbered(
     ensures core { OnCore core.old.value core.new.value result (λ old told new. Submits old queue job told new × TellsNumber old order.old told order.new) }
     ensures empty { core.old.value ≡ None → order.new ≡ order.old }
 {
-    let Some(mut hosted) = core.take(alloc) else {
-        return number(Code::Empty);
-    };
-    let code = hosted.submit_numbered(queue, job, order);
-    core.put(hosted);
-    number(code)
+    with!(core, alloc, hosted => hosted.submit_numbered(queue, job, order))
 }
 
 /// Wakes the job of this number.
@@ -144,12 +136,7 @@ pub extern "C" fn fx_submit_numbered(
 pub extern "C" fn fx_wake(alloc: Global, core: &mut Handle, order: u64) -> u32
     ensures { OnCore core.old.value core.new.value result (λ old told new. WakesNumber old order told new) }
 {
-    let Some(mut hosted) = core.take(alloc) else {
-        return number(Code::Empty);
-    };
-    let code = hosted.wake(order);
-    core.put(hosted);
-    number(code)
+    with!(core, alloc, hosted => hosted.wake(order))
 }
 
 /// Tells which job to run now.
@@ -158,12 +145,7 @@ pub extern "C" fn fx_next(alloc: Global, core: &mut Handle, job: &mut u64) -> u3
     ensures core { OnCore core.old.value core.new.value result (λ old told new. Nexts old job.old told job.new new) }
     ensures empty { core.old.value ≡ None → job.new ≡ job.old }
 {
-    let Some(mut hosted) = core.take(alloc) else {
-        return number(Code::Empty);
-    };
-    let code = hosted.next(job);
-    core.put(hosted);
-    number(code)
+    with!(core, alloc, hosted => hosted.next(job))
 }
 
 /// Settles the run of the job that `fx_next` told. It took `spent` nanoseconds.
@@ -171,12 +153,7 @@ pub extern "C" fn fx_next(alloc: Global, core: &mut Handle, job: &mut u64) -> u3
 pub extern "C" fn fx_settle(alloc: Global, core: &mut Handle, step: u32, spent: u64) -> u32
     ensures { OnCore core.old.value core.new.value result (λ old told new. SettlesStep old (step_of step) spent told new) }
 {
-    let Some(mut hosted) = core.take(alloc) else {
-        return number(Code::Empty);
-    };
-    let code = hosted.settle(step, spent);
-    core.put(hosted);
-    number(code)
+    with!(core, alloc, hosted => hosted.settle(step, spent))
 }
 
 /// Closes a queue.
@@ -184,12 +161,7 @@ pub extern "C" fn fx_settle(alloc: Global, core: &mut Handle, step: u32, spent: 
 pub extern "C" fn fx_close_queue(alloc: Global, core: &mut Handle, queue: u32, mode: u32) -> u32
     ensures { OnCore core.old.value core.new.value result (λ old told new. ClosesLine old queue (mode_of_number mode) told new) }
 {
-    let Some(mut hosted) = core.take(alloc) else {
-        return number(Code::Empty);
-    };
-    let code = hosted.close_queue(queue, mode);
-    core.put(hosted);
-    number(code)
+    with!(core, alloc, hosted => hosted.close_queue(queue, mode))
 }
 
 /// Closes a core with all its queues.
@@ -197,12 +169,7 @@ pub extern "C" fn fx_close_queue(alloc: Global, core: &mut Handle, queue: u32, m
 pub extern "C" fn fx_close(alloc: Global, core: &mut Handle, mode: u32) -> u32
     ensures { OnCore core.old.value core.new.value result (λ old told new. ClosesAll old (mode_of_number mode) told new) }
 {
-    let Some(mut hosted) = core.take(alloc) else {
-        return number(Code::Empty);
-    };
-    let code = hosted.close(mode);
-    core.put(hosted);
-    number(code)
+    with!(core, alloc, hosted => hosted.close(mode))
 }
 
 /// Tells the counts of a core.
@@ -211,12 +178,7 @@ pub extern "C" fn fx_stats(alloc: Global, core: &mut Handle, stats: &mut CoreFig
     ensures core { OnCore core.old.value core.new.value result (λ old told new. (new ≡ old) × TellsCore old stats.old told stats.new) }
     ensures empty { core.old.value ≡ None → stats.new ≡ stats.old }
 {
-    let Some(hosted) = core.take(alloc) else {
-        return number(Code::Empty);
-    };
-    let code = hosted.tell(stats);
-    core.put(hosted);
-    number(code)
+    with!(core, alloc, hosted => hosted.tell(stats))
 }
 
 /// Tells the counts of a queue.
@@ -230,10 +192,5 @@ pub extern "C" fn fx_stats_of_queue(
     ensures core { OnCore core.old.value core.new.value result (λ old told new. (new ≡ old) × TellsQueue old queue stats.old told stats.new) }
     ensures empty { core.old.value ≡ None → stats.new ≡ stats.old }
 {
-    let Some(hosted) = core.take(alloc) else {
-        return number(Code::Empty);
-    };
-    let code = hosted.tell_queue(queue, stats);
-    core.put(hosted);
-    number(code)
+    with!(core, alloc, hosted => hosted.tell_queue(queue, stats))
 }

@@ -32,12 +32,7 @@ pub extern "C" fn fx_seat_next(alloc: Global, seat: &mut SeatHandle, turn: &mut 
         members.OnCore old (turn.new ≡ turn.old) told new (λ before code after. NextsTold before turn.old code turn.new after)) }
     ensures empty { seat.old.value ≡ None → turn.new ≡ turn.old }
 {
-    let Some(mut member) = seat.take(alloc) else {
-        return number(Code::Empty);
-    };
-    let code = member.next(turn);
-    seat.put(member);
-    number(code)
+    with!(seat, alloc, member => member.next(turn))
 }
 
 /// Settles the run of the job that `fx_seat_next` told. It took `spent` nanoseconds.
@@ -52,12 +47,7 @@ pub extern "C" fn fx_seat_settle(
     ensures { OnCore seat.old.value seat.new.value result (λ old told new.
         members.OnCore old (Unit {0}) told new (λ before code after. SettlesTold before (step_of step answer) spent code after)) }
 {
-    let Some(mut member) = seat.take(alloc) else {
-        return number(Code::Empty);
-    };
-    let code = member.settle(step, answer, spent);
-    seat.put(member);
-    number(code)
+    with!(seat, alloc, member => member.settle(step, answer, spent))
 }
 
 /// Settles the run of the job that is out, and tells which job to run now.
@@ -74,12 +64,7 @@ pub extern "C" fn fx_seat_step(
         members.OnCore old (turn.new ≡ turn.old) told new (λ before code after. StepsTold before (step_of step answer) spent turn.old code turn.new after)) }
     ensures empty { seat.old.value ≡ None → turn.new ≡ turn.old }
 {
-    let Some(mut member) = seat.take(alloc) else {
-        return number(Code::Empty);
-    };
-    let code = member.step(step, answer, spent, turn);
-    seat.put(member);
-    number(code)
+    with!(seat, alloc, member => member.step(step, answer, spent, turn))
 }
 
 /// Delivers the next order of this actor to the core, if one shows.
@@ -88,12 +73,7 @@ pub extern "C" fn fx_seat_deliver(alloc: Global, seat: &mut SeatHandle, sender: 
     ensures { OnCore seat.old.value seat.new.value result (λ old told new.
         members.OnCore old (Unit {0}) told new (λ before code after. DeliversTold sender before code after)) }
 {
-    let Some(mut member) = seat.take(alloc) else {
-        return number(Code::Empty);
-    };
-    let code = member.deliver(sender);
-    seat.put(member);
-    number(code)
+    with!(seat, alloc, member => member.deliver(sender))
 }
 
 /// Closes the core by itself.
@@ -102,12 +82,7 @@ pub extern "C" fn fx_seat_close(alloc: Global, seat: &mut SeatHandle, mode: u32)
     ensures { OnCore seat.old.value seat.new.value result (λ old told new.
         members.OnCore old (Unit {0}) told new (λ before code after. ClosesTold (mode_of_number mode) before code after)) }
 {
-    let Some(mut member) = seat.take(alloc) else {
-        return number(Code::Empty);
-    };
-    let code = member.close(mode);
-    seat.put(member);
-    number(code)
+    with!(seat, alloc, member => member.close(mode))
 }
 
 /// Shuts the gate of this actor in the core.
@@ -116,12 +91,7 @@ pub extern "C" fn fx_seat_shut(alloc: Global, seat: &mut SeatHandle, sender: u32
     ensures { OnCore seat.old.value seat.new.value result (λ old told new.
         members.OnCore old (Unit {0}) told new (λ before code after. ShutsTold sender before code after)) }
 {
-    let Some(mut member) = seat.take(alloc) else {
-        return number(Code::Empty);
-    };
-    let code = member.shut(sender);
-    seat.put(member);
-    number(code)
+    with!(seat, alloc, member => member.shut(sender))
 }
 
 /// Whether the core has come to its end.
@@ -130,12 +100,7 @@ pub extern "C" fn fx_seat_drained(alloc: Global, seat: &mut SeatHandle) -> u32
     ensures { OnCore seat.old.value seat.new.value result (λ old told new.
         members.OnCore old (Unit {0}) told new (λ before code after. (after ≡ before) × IsTold before code)) }
 {
-    let Some(mut member) = seat.take(alloc) else {
-        return number(Code::Empty);
-    };
-    let code = member.drained();
-    seat.put(member);
-    number(code)
+    with!(seat, alloc, member => member.drained())
 }
 
 /// Collects all outcomes that the link to this core shows.
@@ -149,12 +114,7 @@ pub extern "C" fn fx_seat_collect(
     ensures seat { OnCore seat.old.value seat.new.value result (λ old told new. CollectsTold old core count.old told count.new new) }
     ensures empty { seat.old.value ≡ None → count.new ≡ count.old }
 {
-    let Some(mut member) = seat.take(alloc) else {
-        return number(Code::Empty);
-    };
-    let code = member.collect(core, count);
-    seat.put(member);
-    number(code)
+    with!(seat, alloc, member => member.collect(core, count))
 }
 
 /// Tells the outcome of a submission that was collected.
@@ -168,12 +128,7 @@ pub extern "C" fn fx_seat_redeem(
     ensures seat { OnCore seat.old.value seat.new.value result (λ old told new. RedeemsTold old name.now outcome.old told outcome.new new) }
     ensures empty { seat.old.value ≡ None → outcome.new ≡ outcome.old }
 {
-    let Some(mut member) = seat.take(alloc) else {
-        return number(Code::Empty);
-    };
-    let code = member.redeem(name, outcome);
-    seat.put(member);
-    number(code)
+    with!(seat, alloc, member => member.redeem(name, outcome))
 }
 
 /// Nobody will ask for the outcome of a submission.
@@ -181,12 +136,7 @@ pub extern "C" fn fx_seat_redeem(
 pub extern "C" fn fx_seat_detach(alloc: Global, seat: &mut SeatHandle, name: &Name) -> u32
     ensures { OnCore seat.old.value seat.new.value result (λ old told new. DetachesTold old name.now told new) }
 {
-    let Some(mut member) = seat.take(alloc) else {
-        return number(Code::Empty);
-    };
-    let code = member.detach(name);
-    seat.put(member);
-    number(code)
+    with!(seat, alloc, member => member.detach(name))
 }
 
 /// Hands on the text of the notes that the journal keeps, and tells how many bytes it has.
@@ -200,12 +150,7 @@ pub extern "C" fn fx_seat_pass_on(
     ensures seat { OnCore seat.old.value seat.new.value result (λ old told new. PassesTold old bytes.old count.old told new bytes.new count.new) }
     ensures empty { seat.old.value ≡ None → (bytes.new ≡ bytes.old) × (count.new ≡ count.old) }
 {
-    let Some(mut member) = seat.take(alloc) else {
-        return number(Code::Empty);
-    };
-    let code = member.pass_on(alloc, bytes, count);
-    seat.put(member);
-    number(code)
+    with!(seat, alloc, member => member.pass_on(alloc, bytes, count))
 }
 
 /// Tells how many notes the journal keeps, and how many more it may.
@@ -219,12 +164,7 @@ pub extern "C" fn fx_seat_notes(
     ensures seat { OnCore seat.old.value seat.new.value result (λ old told new. (new ≡ old) × NotesTold old kept.old free_notes.old told kept.new free_notes.new) }
     ensures empty { seat.old.value ≡ None → (kept.new ≡ kept.old) × (free_notes.new ≡ free_notes.old) }
 {
-    let Some(member) = seat.take(alloc) else {
-        return number(Code::Empty);
-    };
-    let code = member.notes(kept, free_notes);
-    seat.put(member);
-    number(code)
+    with!(seat, alloc, member => member.notes(kept, free_notes))
 }
 
 /// Tells the name of a submission whose outcome was collected, as the note at this place of the journal says.
@@ -238,12 +178,7 @@ pub extern "C" fn fx_seat_came(
     ensures seat { OnCore seat.old.value seat.new.value result (λ old told new. (new ≡ old) × CameTold old place name.old told name.new) }
     ensures empty { seat.old.value ≡ None → name.new ≡ name.old }
 {
-    let Some(member) = seat.take(alloc) else {
-        return number(Code::Empty);
-    };
-    let code = member.came(place, name);
-    seat.put(member);
-    number(code)
+    with!(seat, alloc, member => member.came(place, name))
 }
 
 /// Copies the text of some of the notes that the journal keeps, and tells how many bytes it has, and of how many notes it is.
@@ -261,12 +196,7 @@ pub extern "C" fn fx_seat_copy(
         (new ≡ old) × CopiesTold old form.Text from most bytes.old count.old notes.old told bytes.new count.new notes.new) }
     ensures empty { seat.old.value ≡ None → (bytes.new ≡ bytes.old) × (count.new ≡ count.old) × (notes.new ≡ notes.old) }
 {
-    let Some(member) = seat.take(alloc) else {
-        return number(Code::Empty);
-    };
-    let code = member.copy(alloc, Form::Text, from, most, bytes, count, notes);
-    seat.put(member);
-    number(code)
+    with!(seat, alloc, member => member.copy(alloc, Form::Text, from, most, bytes, count, notes))
 }
 
 /// Copies some of the notes that the journal keeps as a part in bytes, before which came so many notes of the actor, and tells how many bytes it has,
@@ -286,12 +216,7 @@ pub extern "C" fn fx_seat_copy_bytes(
         (new ≡ old) × CopiesTold old (form.Bytes before) from most bytes.old count.old notes.old told bytes.new count.new notes.new) }
     ensures empty { seat.old.value ≡ None → (bytes.new ≡ bytes.old) × (count.new ≡ count.old) × (notes.new ≡ notes.old) }
 {
-    let Some(member) = seat.take(alloc) else {
-        return number(Code::Empty);
-    };
-    let code = member.copy(alloc, Form::Bytes(before), from, most, bytes, count, notes);
-    seat.put(member);
-    number(code)
+    with!(seat, alloc, member => member.copy(alloc, Form::Bytes(before), from, most, bytes, count, notes))
 }
 
 /// Forgets the notes that the journal keeps, and tells how many they were.
@@ -300,12 +225,7 @@ pub extern "C" fn fx_seat_forget(alloc: Global, seat: &mut SeatHandle, count: &m
     ensures seat { OnCore seat.old.value seat.new.value result (λ old told new. ForgetsTold old count.old told count.new new) }
     ensures empty { seat.old.value ≡ None → count.new ≡ count.old }
 {
-    let Some(mut member) = seat.take(alloc) else {
-        return number(Code::Empty);
-    };
-    let code = member.forget(count);
-    seat.put(member);
-    number(code)
+    with!(seat, alloc, member => member.forget(count))
 }
 
 /// Whether a link shows an order or an outcome that wasn't seen yet.
@@ -313,12 +233,7 @@ pub extern "C" fn fx_seat_forget(alloc: Global, seat: &mut SeatHandle, count: &m
 pub extern "C" fn fx_seat_shows(alloc: Global, seat: &mut SeatHandle) -> u32
     ensures { OnCore seat.old.value seat.new.value result (λ old told new. ShowsTold old told new) }
 {
-    let Some(mut member) = seat.take(alloc) else {
-        return number(Code::Empty);
-    };
-    let code = member.shows();
-    seat.put(member);
-    number(code)
+    with!(seat, alloc, member => member.shows())
 }
 
 /// Tells the counts of a core.
@@ -332,12 +247,7 @@ pub extern "C" fn fx_seat_stats(
         members.OnCore old (stats.new ≡ stats.old) told new (λ before code after. (after ≡ before) × SeatTells before stats.old code stats.new)) }
     ensures empty { seat.old.value ≡ None → stats.new ≡ stats.old }
 {
-    let Some(mut member) = seat.take(alloc) else {
-        return number(Code::Empty);
-    };
-    let code = member.stats(stats);
-    seat.put(member);
-    number(code)
+    with!(seat, alloc, member => member.stats(stats))
 }
 
 /// Tells the counts of a queue.
@@ -352,10 +262,5 @@ pub extern "C" fn fx_seat_stats_of_queue(
         members.OnCore old (stats.new ≡ stats.old) told new (λ before code after. (after ≡ before) × SeatTellsQueue before queue stats.old code stats.new)) }
     ensures empty { seat.old.value ≡ None → stats.new ≡ stats.old }
 {
-    let Some(mut member) = seat.take(alloc) else {
-        return number(Code::Empty);
-    };
-    let code = member.stats_of_queue(queue, stats);
-    seat.put(member);
-    number(code)
+    with!(seat, alloc, member => member.stats_of_queue(queue, stats))
 }

@@ -25,12 +25,7 @@ fn send(
 ) -> u32
     ensures { Submits seat.old.value to order name.old result name.new seat.new.value }
 {
-    let Some(mut member) = seat.take(alloc) else {
-        return number(Code::Empty);
-    };
-    let code = member.send(to, order, name);
-    seat.put(member);
-    number(code)
+    with!(seat, alloc, member => member.send(to, order, name))
 }
 
 /// Submits a job to a queue of a core.

@@ -63,12 +63,7 @@ pub extern "C" fn fx_next_time(alloc: Global, timers: &mut SeatHandle, time: &mu
         members.OnSleepers old (time.new ≡ time.old) told new (λ before code after. TellsNext before time.old code time.new × (after ≡ before))) }
     ensures empty { timers.old.value ≡ None → time.new ≡ time.old }
 {
-    let Some(member) = timers.take(alloc) else {
-        return number(Code::Empty);
-    };
-    let code = member.next_time(time);
-    timers.put(member);
-    number(code)
+    with!(timers, alloc, member => member.next_time(time))
 }
 
 /// Settles the run of the job that `fx_next` told. If it parks, its job sleeps until this time.
@@ -85,12 +80,7 @@ pub extern "C" fn fx_settle_until(
         OnTimers timers.old.value (new ≡ old) told timers.new.value (λ before code after. SettlesUntil (step_of step) (record { spent = spent; until = time }) old before code new after)) }
     ensures empty { core.old.value ≡ None → timers.new.value ≡ timers.old.value }
 {
-    let Some(mut hosted) = core.take(alloc) else {
-        return number(Code::Empty);
-    };
-    let code = settle_alone(alloc, &mut hosted, timers, step, spent, time);
-    core.put(hosted);
-    number(code)
+    with!(core, alloc, hosted => settle_alone(alloc, &mut hosted, timers, step, spent, time))
 }
 
 /// Settles a run with the timers of a handle.
@@ -124,12 +114,7 @@ pub extern "C" fn fx_wake_due(
         OnTimers timers.old.value (new ≡ old) told timers.new.value (λ before code after. WakesDueAlone now old before code new after)) }
     ensures empty { core.old.value ≡ None → timers.new.value ≡ timers.old.value }
 {
-    let Some(mut hosted) = core.take(alloc) else {
-        return number(Code::Empty);
-    };
-    let code = wake_alone(alloc, &mut hosted, timers, now);
-    core.put(hosted);
-    number(code)
+    with!(core, alloc, hosted => wake_alone(alloc, &mut hosted, timers, now))
 }
 
 /// Looks at the timers of a handle.
@@ -159,12 +144,7 @@ pub extern "C" fn fx_seat_settle_until(
         OnBoth old timers.old.value told new timers.new.value (λ at before code gets after. sleepers.SettlesUntil (turns.step_of step answer) (record { spent = spent; until = time }) at before code gets after)) }
     ensures empty { seat.old.value ≡ None → timers.new.value ≡ timers.old.value }
 {
-    let Some(mut core) = seat.take(alloc) else {
-        return number(Code::Empty);
-    };
-    let code = settle_in_house(alloc, &mut core, timers, step, answer, spent, time);
-    seat.put(core);
-    number(code)
+    with!(seat, alloc, core => settle_in_house(alloc, &mut core, timers, step, answer, spent, time))
 }
 
 /// Settles a run with the timers of a handle.
@@ -199,12 +179,7 @@ pub extern "C" fn fx_seat_wake_due(
         OnBoth old timers.old.value told new timers.new.value (λ at before code gets after. WakesDueTold now at before code gets after)) }
     ensures empty { seat.old.value ≡ None → timers.new.value ≡ timers.old.value }
 {
-    let Some(mut core) = seat.take(alloc) else {
-        return number(Code::Empty);
-    };
-    let code = wake_in_house(alloc, &mut core, timers, now);
-    seat.put(core);
-    number(code)
+    with!(seat, alloc, core => wake_in_house(alloc, &mut core, timers, now))
 }
 
 /// Looks at the timers of a handle.
