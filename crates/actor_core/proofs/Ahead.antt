@@ -41,7 +41,7 @@ module _ {J : Type 0} (view core : CoreView J) (told : TellsAhead view (Ok ahead
   pub is_back : {T : Type 0} (picked : Result (Turn J) PickError) (notes : List (Note T)) → CorePicks view picked core notes → IsBack picked
   is_back (Ok (Start name queue job)) notes picks = absurd (no_job name queue false job picks.0 picks.1)
   is_back (Ok (Resume name queue job)) notes picks = absurd (no_job name queue true job picks.0 picks.1)
-  is_back (Ok (Back name reason order)) notes picks = tt
+  is_back (Ok (Back name order reason)) notes picks = tt
   is_back (Ok Idle) notes picks = absurd (told.2 (picks.2 told.0))
   is_back (Err Busy) notes picks = absurd (⊎_elim (λ out. out told.1.free) (λ turn. turn told.1.no_turn) picks.0)
   is_back (Err Spent) notes picks = absurd (omega (arith, picks.2, told.4))
@@ -216,9 +216,9 @@ module _ {J T : Type 0} {meaning : Meaning J T}
         (done_so does.2 (picked name queue (marks_of false does.0.was_woken) job core.queues (taken does.0) does.0.next does.1) (omega arith) (pick_is name queue (marks_of false does.0.was_woken) job core.queues (taken does.0) does.0.next does.1))
     picked_did (Ok (Resume name queue job)) told does = subst (Did (Ok (Resume name queue job)) told) (sym does.0.rest)
         (done_so does.2 (picked name queue (marks_of true does.0.was_woken) job core.queues (taken does.0) does.0.next does.1) (omega arith) (pick_is name queue (marks_of true does.0.was_woken) job core.queues (taken does.0) does.0.next does.1))
-    picked_did (Ok (Back name reason (Job queue job))) told does = subst (Did (Ok (Back name reason (Job queue job))) told) (sym does.0.rest)
+    picked_did (Ok (Back name (Job queue job) reason)) told does = subst (Did (Ok (Back name (Job queue job) reason)) told) (sym does.0.rest)
         (done_so does.2 (handed name queue does.0.marks job core.queues (given_back does.0) does.0.next reason does.1) (omega arith) (handed_is name queue does.0.marks job core.queues (given_back does.0) does.0.next reason does.1))
-    picked_did (Ok (Back name reason _)) told does = absurd does
+    picked_did (Ok (Back name _ reason)) told does = absurd does
     picked_did (Ok Idle) told does = nothing_did recorded does.3 does.4 (idle old recorded does.0 does.2, refl)
     picked_did (Err Busy) told does = nothing_did recorded does.1 does.2 (none_picked old recorded Busy does.0)
     picked_did (Err Spent) told does = nothing_did recorded does.4 does.5 (none_picked old recorded Spent (does.0, does.1, does.2, does.3))

@@ -135,7 +135,7 @@ module _ {J T : Type 0} {meaning : Meaning J T} (old : RecordedView J T) (record
     followed_did (Some (Resume name queue job)) told does = subst (Did (Some (Resume name queue job)) told) (sym does.0.rest)
         (done_so does.1 (followed name queue (marks_of true does.0.was_woken) job core.queues (taken does.0) does.0.turn does.0.goes does.0.its_queue) (omega arith)
         (further_is name queue (marks_of true does.0.was_woken) job core.queues (taken does.0) does.0.turn does.0.goes does.0.its_queue))
-    followed_did (Some (Back name reason order)) told does = absurd does
+    followed_did (Some (Back name order reason)) told does = absurd does
     followed_did (Some Idle) told does = absurd does
     followed_did None told does = nothing_did recorded does.1 does.2 (nothing_told does.0, refl)
 

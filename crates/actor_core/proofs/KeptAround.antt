@@ -37,13 +37,13 @@ module _ {J T : Type 0} {old new : RecordedView J T} where
   none_behind_end ends = ap (λ journal. queue_in_turn new.core.bursts.burst journal.notes) ends.journal ∙ none_either (has_bursts new.core.bursts.burst)
 
   -- what is owed of a job that was handed back
-  pub owed_then : {picked : Result (Turn J) PickError} {name : JobId} {reason : Reason} {order : Order J} → picked ≡ Ok (Back name reason order) → ((sender : ℕ) → LeavesOwed sender (owed_back {T = T} picked sender) old new) →
-      (sender : ℕ) → LeavesOwed sender (owed_back {T = T} (Ok (Back name reason order)) sender) old new
+  pub owed_then : {picked : Result (Turn J) PickError} {name : JobId} {reason : Reason} {order : Order J} → picked ≡ Ok (Back name order reason) → ((sender : ℕ) → LeavesOwed sender (owed_back {T = T} picked sender) old new) →
+      (sender : ℕ) → LeavesOwed sender (owed_back {T = T} (Ok (Back name order reason)) sender) old new
   owed_then is owes = subst (λ one. (sender : ℕ) → LeavesOwed sender (owed_back {T = T} one sender) old new) is owes
 
 module _ {J T : Type 0} {meaning : Meaning J T} {old new : RecordedView J T} {name : JobId} {reason : Reason} {order : Order J} where
   -- what the pick did that handed it back
-  pub handed_back : (picked : Result (Turn J) PickError) → picked ≡ Ok (Back name reason order) → Picks meaning old picked new → IsHandBack meaning old name reason order new
+  pub handed_back : (picked : Result (Turn J) PickError) → picked ≡ Ok (Back name order reason) → Picks meaning old picked new → IsHandBack meaning old name reason order new
   handed_back picked is picks = subst (λ one. Picks meaning old one new) is picks
 
   -- no turn is open behind it, and the order is of the task that was sent

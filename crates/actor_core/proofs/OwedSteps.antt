@@ -109,7 +109,7 @@ module _ {J T : Type 0} (meaning : Meaning J T) (seen : Seen J) (old new : Recor
     pub picks_keep : (picked : Result (Turn J) PickError) → Picks meaning old picked new → KeepsOwed
     picks_keep (Ok (turn.Start name queue job)) did = pick_keeps name queue false job did
     picks_keep (Ok (turn.Resume name queue job)) did = pick_keeps name queue true job did
-    picks_keep (Ok (turn.Back name reason back)) did = hand_back_keeps name reason back did
+    picks_keep (Ok (turn.Back name back reason)) did = hand_back_keeps name reason back did
     picks_keep (Ok turn.Idle) did = same_keeps did.1
     picks_keep (Err picking.Busy) did = same_keeps did.1
     picks_keep (Err picking.Spent) did = same_keeps did.2
@@ -121,7 +121,7 @@ module _ {J T : Type 0} (meaning : Meaning J T) (seen : Seen J) (old new : Recor
     pub follows_keep : (followed : Option (Turn J)) → Follows old followed new → KeepsOwed
     follows_keep (Some (turn.Start name queue job)) did = further_keeps name queue false job did
     follows_keep (Some (turn.Resume name queue job)) did = further_keeps name queue true job did
-    follows_keep (Some (turn.Back name reason back)) did = absurd did
+    follows_keep (Some (turn.Back name back reason)) did = absurd did
     follows_keep (Some turn.Idle) did = absurd did
     follows_keep None did = same_keeps did.1
 

@@ -34,7 +34,7 @@ module _ {J : Type 0} where
 module _ {J T : Type 0} where
   -- the outcome that a pick leaves owed to a sender
   abbrev pub owed_back : Result (Turn J) PickError → ℕ → Option (JobId × OutcomeNote T)
-  owed_back (Ok (Back name reason order)) sender = if_from sender name (name, outcomes.Returned reason)
+  owed_back (Ok (Back name order reason)) sender = if_from sender name (name, outcomes.Returned reason)
   owed_back _ sender = None
 
   -- the outcome of a settled poll

@@ -63,12 +63,12 @@ module _ {J T : Type 0} where
     abbrev pub Picks : RecordedView J T → Result (Turn J) PickError → RecordedView J T → Type 0
     Picks old (Ok (Start name queue job)) new = IsPick old name queue false job new
     Picks old (Ok (Resume name queue job)) new = IsPick old name queue true job new
-    Picks old (Ok (Back name reason order)) new = IsHandBack old name reason order new
+    Picks old (Ok (Back name order reason)) new = IsHandBack old name reason order new
     Picks old (Ok Idle) new = ((queue : ℕ) → has_work queue old.journal.notes ≡ false) × (new ≡ old)
     Picks old (Err Busy) new = ((old.core.out ≢ None) ⊎ IsSome (queue_in_turn old.core.bursts.burst old.journal.notes)) × (new ≡ old)
     Picks old (Err Spent) new = (turns old.journal.notes ≡ 2 ^ 64 - 1) × ((queue : ℕ) × (has_work queue old.journal.notes ≡ true)) × (new ≡ old)
 
 -- the pick handed a job back
 abbrev pub IsBack : {J : Type 0} → Result (Turn J) PickError → Type 0
-IsBack (Ok (Back name reason order)) = Unit {0}
+IsBack (Ok (Back name order reason)) = Unit {0}
 IsBack _ = ⊥

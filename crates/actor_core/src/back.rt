@@ -25,7 +25,7 @@ fn back_of<J: Drop>(picked: Result<Turn<J>, PickError>) -> (JobId, Reason, Order
     ensures { picked ≡ Ok (Back result.0 result.1 result.2) }
 {
     match picked {
-        Ok(Turn::Back(name, reason, order)) => (name, reason, order),
+        Ok(Turn::Back(name, order, reason)) => (name, reason, order),
         Ok(_) | Err(_) => unreachable!(),
     }
 }

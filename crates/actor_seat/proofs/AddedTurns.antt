@@ -40,7 +40,7 @@ module _ {J T : Type 0} where
     pub adds_picked : (old new : RecordedView J T) (turned : Result (Turn J) PickError) → Picks meaning old turned new → Adds 2 old.journal.notes new.journal.notes
     adds_picked old new (Ok (Start name queue job)) picks = adds_pick old new name queue false job picks
     adds_picked old new (Ok (Resume name queue job)) picks = adds_pick old new name queue true job picks
-    adds_picked old new (Ok (Back name reason order)) picks = adds_back old new name reason order picks
+    adds_picked old new (Ok (Back name order reason)) picks = adds_back old new name reason order picks
     adds_picked old new (Ok Idle) picks = same_adds 2 old new picks.1
     adds_picked old new (Err Busy) picks = same_adds 2 old new picks.1
     adds_picked old new (Err Spent) picks = same_adds 2 old new picks.2
@@ -49,7 +49,7 @@ module _ {J T : Type 0} where
   pub adds_followed : (old new : RecordedView J T) (turn : Option (Turn J)) → Follows old turn new → Adds 1 old.journal.notes new.journal.notes
   adds_followed old new (Some (Start name queue job)) is = adds_further old new name queue false job is
   adds_followed old new (Some (Resume name queue job)) is = adds_further old new name queue true job is
-  adds_followed old new (Some (Back name reason order)) is = absurd is
+  adds_followed old new (Some (Back name order reason)) is = absurd is
   adds_followed old new (Some Idle) is = absurd is
   adds_followed old new None is = same_adds 1 old new is.1
 

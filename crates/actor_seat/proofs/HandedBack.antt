@@ -5,7 +5,7 @@ use Rattle.base_words.specs.declared.note.OutcomeNote.TheVariants.{Returned}
 use Rattle.core_core.specs.declared.turn.Turn.TheVariants.{Back}
 use Rattle.actor_seat.proofs.Stepping.{sends_kept}
 
-module _ {J T : Type 0} (old new : RecordedView J T) (picked : Result (Turn J) PickError) (name : JobId) (reason : Reason) (order : Order J) (is : picked ≡ Ok (Back name reason order)) where
+module _ {J T : Type 0} (old new : RecordedView J T) (picked : Result (Turn J) PickError) (name : JobId) (reason : Reason) (order : Order J) (is : picked ≡ Ok (Back name order reason)) where
   pub handed_back : (meaning : Meaning J T) → Picks meaning old picked new → IsHandBack meaning old name reason order new
   handed_back meaning picks = subst (λ one. Picks meaning old one new) is picks
 

@@ -44,7 +44,7 @@ module _ {J T : Type 0} {meaning : Meaning J T} {turned : Result (Turn J) PickEr
       record { seat = left.seat; ends = same; sees = sees; opening = adds.opening; grows = adds.grows }
 
   -- the sender of a job that goes back is there
-  pub back_known : (name : JobId) (reason : Reason) (order : Order J) → turned ≡ Ok (Back name reason order) → name.from ≤ new.core.cores
+  pub back_known : (name : JobId) (reason : Reason) (order : Order J) → turned ≡ Ok (Back name order reason) → name.from ≤ new.core.cores
   back_known name reason order is =
       let did = handed_back old new turned name reason order is meaning left.picks in
       (left.sound.taken name _ (ap (λ took. order_taken took name) did.took ∙ did.task)).sender

@@ -35,7 +35,7 @@ module _ {J : Type 0} where
   abbrev pub taken_of : Result (Turn J) PickError → Result (Taken J) PickError
   taken_of (Ok (turn.Start name queue job)) = Ok (taken.Start name queue job)
   taken_of (Ok (turn.Resume name queue job)) = Ok (taken.Resume name queue job)
-  taken_of (Ok (turn.Back name reason order)) = Ok (taken.Back name reason)
+  taken_of (Ok (turn.Back name order reason)) = Ok (taken.Back name reason)
   taken_of (Ok turn.Idle) = Ok taken.Idle
   taken_of (Err error) = Err error
 

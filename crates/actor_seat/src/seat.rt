@@ -326,7 +326,7 @@ impl<J: Task<Out = u64>> Seat<J> {
         match self.recorded.pick() {
             Ok(Turn::Start(name, queue, job)) => Ok(Taken::Start(name, queue, job)),
             Ok(Turn::Resume(name, queue, job)) => Ok(Taken::Resume(name, queue, job)),
-            Ok(Turn::Back(name, reason, order)) => {
+            Ok(Turn::Back(name, order, reason)) => {
                 let told = back(&name, &reason);
                 give_on(&self.recorded, &mut self.ends, name, reason, order);
                 Ok(told)

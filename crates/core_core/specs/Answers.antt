@@ -19,7 +19,7 @@ module _ {J : Type 0} where
   abbrev pub IsReadyTurn : {T : Type 0} → Meaning J T → Result (Turn J) PickError → Type 0
   IsReadyTurn meaning (Ok (Start name queue job)) = IsReady meaning job
   IsReadyTurn meaning (Ok (Resume name queue job)) = IsReady meaning job
-  IsReadyTurn meaning (Ok (Back name reason order)) = HasReadyJob meaning order
+  IsReadyTurn meaning (Ok (Back name order reason)) = HasReadyJob meaning order
   IsReadyTurn meaning (Ok Idle) = Unit {0}
   IsReadyTurn meaning (Err error) = Unit {0}
 

@@ -40,7 +40,7 @@ module _ {J T : Type 0} where
   Follows old None new written = IsOver old × (new ≡ old) × (written ≡ [])
   Follows old (Some (turns.Start name queue job)) new written = FollowsOut old name queue false job new × (written ≡ follow_notes name false)
   Follows old (Some (turns.Resume name queue job)) new written = FollowsOut old name queue true job new × (written ≡ follow_notes name true)
-  Follows old (Some (turns.Back name reason order)) new written = ⊥
+  Follows old (Some (turns.Back name order reason)) new written = ⊥
   Follows old (Some turns.Idle) new written = ⊥
 
   -- the turn ends: its queue is charged once, for all its polls, under the shares that it has now

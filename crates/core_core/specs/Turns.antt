@@ -61,10 +61,10 @@ module _ {J T : Type 0} where
       TakesOut old name queue false job new × (return_reason queue old ≡ None) × (written ≡ notes.Pick queue (runtime_of queue old) ∷ notes.Start name ∷ [])
   Picks old (Ok (Resume name queue job)) new written =
       TakesOut old name queue true job new × (return_reason queue old ≡ None) × (written ≡ notes.Pick queue (runtime_of queue old) ∷ notes.Resume name ∷ [])
-  Picks old (Ok (Back name reason (Job queue job))) new written =
+  Picks old (Ok (Back name (Job queue job) reason)) new written =
       HandsBack old name queue job new × (return_reason queue old ≡ Some reason)
       × (written ≡ notes.Pick queue (runtime_of queue old) ∷ notes.Returned name reason ∷ [])
-  Picks old (Ok (Back name reason order)) new written = ⊥
+  Picks old (Ok (Back name order reason)) new written = ⊥
   Picks old (Ok Idle) new written =
       (old.out ≡ None) × (old.bursts.open ≡ None) × ((queue : ℕ) → waiting_of queue old.queues ≡ []) × (new ≡ old) × (written ≡ [])
   -- a job that is out, or an open turn, comes before turns that are used up

@@ -14,6 +14,7 @@ use core_timeline::{Slip, Timeline};
 use std::alloc::Allocator;
 
 /// Puts a queue into the timeline at this virtual runtime, by its slip. That can't fail.
+#[inline(always)]
 pub(crate) fn enter<J: Drop, A: Allocator + Clone>(
     queues: &mut Queues<J, A>,
     ready: &mut Timeline<A>,

@@ -9,8 +9,8 @@ pub enum Turn<J> {
     Start(JobId, QueueNo, J),
     /// The job is out for a further poll.
     Resume(JobId, QueueNo, J),
-    /// The job is handed back, in its order.
-    Back(JobId, Reason, Order<J>),
+    /// The job is handed back, in its order, for this reason. So the job lies where one that goes out does, and is moved as a whole.
+    Back(JobId, Order<J>, Reason),
     /// No queue has work.
     Idle,
 }

@@ -24,7 +24,7 @@ use Rattle.host_core.specs.Jobs.{host_meaning}
 abbrev pub code_of_turn : Result (Turn HostJob) PickError → Code
 code_of_turn (Ok (Start name queue job)) = code.Start
 code_of_turn (Ok (Resume name queue job)) = code.Resume
-code_of_turn (Ok (Back name reason order)) = code.Back
+code_of_turn (Ok (Back name order reason)) = code.Back
 code_of_turn (Ok Idle) = code.Idle
 code_of_turn (Err Busy) = code.Busy
 code_of_turn (Err Spent) = code.Spent
@@ -33,7 +33,7 @@ code_of_turn (Err Spent) = code.Spent
 abbrev pub handle_told : Result (Turn HostJob) PickError → ℕ → ℕ
 handle_told (Ok (Start name queue job)) before = job.handle
 handle_told (Ok (Resume name queue job)) before = job.handle
-handle_told (Ok (Back name reason (orders.Job queue job))) before = job.handle
+handle_told (Ok (Back name (orders.Job queue job) reason)) before = job.handle
 handle_told turn before = before
 
 -- a pick, with its code and the job that it tells; no turn is open, since each run is one

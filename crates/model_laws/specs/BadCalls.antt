@@ -58,7 +58,7 @@ module _ (new : RecordedView ℕ ℕ) where
   spent_before_its_first_turn meaning told = absurd (omega (arith, told.0))
 
   -- a job is handed back within a turn
-  pub hands_back_within_a_turn : Follows fresh (Some (Back job CoreClosing (Job 0 7))) new → ⊥
+  pub hands_back_within_a_turn : Follows fresh (Some (Back job (Job 0 7) CoreClosing)) new → ⊥
   hands_back_within_a_turn told = told
 
   -- a turn ends that nobody began

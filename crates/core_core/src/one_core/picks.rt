@@ -33,7 +33,7 @@ impl<J: Task, A: Allocator + Clone> Core<J, A> {
             (Some(reason), _) => {
                 self.hand_back();
                 let notes = two_notes(picked, Note::Returned(named, reason));
-                (Turn::Back(name, reason, Order::Job(queue, job)), notes)
+                (Turn::Back(name, Order::Job(queue, job), reason), notes)
             }
             (None, true) => {
                 let notes = two_notes(picked, Note::Resume(named));

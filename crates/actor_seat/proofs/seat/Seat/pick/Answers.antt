@@ -13,7 +13,7 @@ left : (g : Over) (c : After-pick g) → LeavesPick g.J.Task.meaning c.pick.resu
 left g c = record { picks = c.pick.ensures.picks; ins = c.pick.ensures.ins; outs = c.pick.ensures.outs; lanes = c.pick.ensures.lanes; seat = c.pick.ensures.seat; sound = c.pick.ensures.sound }
 
 -- it handed this job back
-told : (g : Over) (c : In-Ok-Back g) → c.pick.result ≡ Ok (Back c.in-Ok-Back.name c.in-Ok-Back.reason c.in-Ok-Back.order)
+told : (g : Over) (c : In-Ok-Back g) → c.pick.result ≡ Ok (Back c.in-Ok-Back.name c.in-Ok-Back.order c.in-Ok-Back.reason)
 told g c = c.in-Ok-Back.is ∙ ap (λ turn. Ok turn) c.in-Ok-Back.field-0-is
 
 pub invariant_of-self : goal.invariant_of-self
