@@ -110,7 +110,7 @@ impl Hosted {
                 self.run = Some(Run { name, job: next });
                 Code::Resume
             }
-            Ok(Turn::Back(_, Order::Job(_, back), _)) => {
+            Ok(Turn::Back(_, _, Order::Job(_, back))) => {
                 *job = back.handle;
                 Code::Back
             }

@@ -37,6 +37,7 @@ pub mod timers;
 
 use crate::handle::Handle;
 use crate::hosted::open_for;
+use base_words::ActorNo;
 use host_calls::figures::{CoreFigures, QueueFigures};
 use host_calls::{Code, number};
 use std::alloc::Global;
@@ -136,7 +137,7 @@ pub extern "C" fn fx_submit_numbered(
 pub extern "C" fn fx_wake(alloc: Global, core: &mut Handle, order: u64) -> u32
     ensures { OnCore core.old.value core.new.value result (λ old told new. WakesNumber old order told new) }
 {
-    with!(core, alloc, hosted => hosted.wake(order))
+    with!(core, alloc, hosted => hosted.wake_from(ActorNo(1), order))
 }
 
 /// Tells which job to run now.

@@ -4,7 +4,7 @@ ghost use Rattle.base_words.specs.Commands.{job_at};
 ghost use Rattle.fairexec_c.specs.Hosting.{Submits};
 ghost use Rattle.fairexec_c.specs.Queueing.{MakesQueue, Reweighs, ClosesLine, ClosesAll};
 ghost use Rattle.host_calls.specs.Orders.{mode_of_number};
-ghost use Rattle.fairexec_c.specs.Waking.{TellsNumber, WakesInside, WakesNumber};
+ghost use Rattle.fairexec_c.specs.Waking.{TellsNumber, WakesInside};
 
 use crate::hosted::Hosted;
 use base_words::{ActorNo, Answer, Order, QueueNo, Reason, Shares};
@@ -51,13 +51,6 @@ impl Hosted {
             *number = before + 1;
         }
         code
-    }
-
-    /// Wakes the job of this number.
-    pub fn wake(&mut self, number: u64) -> Code
-        ensures { WakesNumber self.old number result self.new }
-    {
-        self.wake_from(ActorNo(1), number)
     }
 
     /// Wakes the job of this sender and number.

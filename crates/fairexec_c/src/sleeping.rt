@@ -25,7 +25,13 @@ impl Hosted {
     }
 
     /// Settles the run of the job that is out. If it parks, its job sleeps until this time.
-    fn settle_asleep(&mut self, sleepers: &mut Sleepers, number: u32, spent: u64, time: u64) -> Code
+    pub(crate) fn settle_asleep(
+        &mut self,
+        sleepers: &mut Sleepers,
+        number: u32,
+        spent: u64,
+        time: u64,
+    ) -> Code
         ensures { SettlesUntil (step_of number) (record { spent = spent; until = time }) self.old sleepers.old result self.new sleepers.new }
     {
         let Some(step) = step_numbered(number) else {
@@ -56,22 +62,6 @@ impl Hosted {
         let told = self.wake_from(name.from, name.number);
         sleepers.pass(told, &name);
         told
-    }
-
-    /// The same with the timers of a handle.
-    pub(crate) fn settle_until(
-        &mut self,
-        timers: &mut Member,
-        number: u32,
-        spent: u64,
-        time: u64,
-    ) -> Code
-        ensures { OnSleepers timers.old (self.new ≡ self.old) result timers.new (λ before code after. SettlesUntil (step_of number) (record { spent = spent; until = time }) self.old before code self.new after) }
-    {
-        match timers {
-            Member::Sleepers(sleepers) => self.settle_asleep(sleepers, number, spent, time),
-            _ => Code::Empty,
-        }
     }
 
     /// The same with the timers of a handle.

@@ -97,7 +97,10 @@ fn settle_alone(
     let Some(mut member) = timers.take(alloc) else {
         return Code::Empty;
     };
-    let code = hosted.settle_until(&mut member, step, spent, time);
+    let code = match &mut *member {
+        Member::Sleepers(sleepers) => hosted.settle_asleep(sleepers, step, spent, time),
+        _ => Code::Empty,
+    };
     timers.put(member);
     code
 }
