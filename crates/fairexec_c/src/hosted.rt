@@ -110,7 +110,7 @@ impl Hosted {
                 self.run = Some(Run { name, job: next });
                 Code::Resume
             }
-            Ok(Turn::Back(_, _, Order::Job(_, back))) => {
+            Ok(Turn::Back(_, Order::Job(_, back), _)) => {
                 *job = back.handle;
                 Code::Back
             }
