@@ -1,6 +1,6 @@
 -- Answers that no call may give, each refused by the definition that judges it.
 use Rattle.std.proofs.Common.{refl, arith, ap}
-use Rattle.std.specs.Prelude.{◌≡◌, ℕ, Option, Some, None, Result}
+use Rattle.std.specs.Prelude.{ℕ, Option, Some, None, Result}
 use Rattle.base_words.specs.declared.order.Order.{Order}
 use Rattle.core_core.specs.State.{CoreView}
 use Rattle.host_calls.specs.declared.code.Code.{Code}

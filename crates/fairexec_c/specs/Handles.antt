@@ -6,10 +6,8 @@ use denote.RawPtr.{Ptr, null_ptr}
 use Rattle.std.specs.Box.Ownership.{box_owns}
 use Rattle.std.specs.declared.alloc.Global.{Global}
 use Rattle.std.specs.contracts.impls.GlobalAllocator.TheImpl.{ghosts}
-use Rattle.core_core.specs.State.{CoreView}
 use Rattle.host_calls.specs.declared.code.Code.{Code}
 use Rattle.host_calls.specs.declared.code.Code.TheVariants as code
-use Rattle.host_core.specs.declared.job.HostJob.{HostJob}
 use Rattle.host_calls.specs.Codes.{number_of}
 
 -- nothing at null, else a box of this value

@@ -1,5 +1,5 @@
 -- What the calls on a house do.
-use Rattle.std.specs.Prelude.{◌≡◌, ◌≢◌, ◌⊎◌, ℕ, Option, Some, None, Result, Ok, Err}
+use Rattle.std.specs.Prelude.{◌≡◌, ◌≢◌, ◌⊎◌, ℕ, Option, Some, None, Ok, Err}
 use Rattle.host_calls.specs.declared.code.Code.{Code}
 use Rattle.host_calls.specs.declared.code.Code.TheVariants as code
 use Rattle.host_calls.specs.declared.house.Config.{Config}

@@ -1,5 +1,5 @@
 -- What the calls on queues and their closing do: the core before, what is handed in, the code, and the core after.
-use Rattle.std.specs.Prelude.{◌≡◌, ◌⊎◌, ◌==◌, if◌then◌else◌, ℕ, ◌-◌, ◌^◌, ◌<◌, ◌≤◌, true, false, Option, Some, None}
+use Rattle.std.specs.Prelude.{◌≡◌, ◌⊎◌, ◌==◌, ℕ, ◌-◌, ◌^◌, ◌<◌, ◌≤◌, true, false, Option, Some, None}
 use Rattle.base_words.specs.declared.order.Mode.{Mode}
 use Rattle.base_words.specs.Limits.{most_queues}
 use Rattle.base_words.specs.Closing.{closes}

@@ -1,5 +1,5 @@
 -- What the calls on a seat of a house do.
-use Rattle.std.specs.Prelude.{◌≡◌, ℕ, Option, Some, None, Result}
+use Rattle.std.specs.Prelude.{◌≡◌, ℕ, Option, None, Result}
 use Rattle.base_words.specs.declared.order.Order.{Order}
 use Rattle.host_calls.specs.declared.code.Code.{Code}
 use Rattle.host_calls.specs.declared.member.Member.{Member}
