@@ -57,11 +57,13 @@ pub fn append(log: &Log, expires: u64, key: &[u8], value: &[u8]) {
     }
 }
 
-/// Waits until all that was appended is as safe as it has to be before it is answered.
-pub async fn safe() {
+/// Waits until all that was appended is as safe as it has to be before this is answered.
+pub async fn safe<T>(answer: T) -> T {
     if let Some(log) = shard(|it| it.log.clone()) {
-        or_exit(log.safe().await);
+        // In a box, so that each call to another core has a small future.
+        or_exit(Box::pin(async move { log.safe().await }).await);
     }
+    answer
 }
 
 /// Tells what each key has, in the place of all that was appended before.

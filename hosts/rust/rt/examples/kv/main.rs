@@ -45,11 +45,7 @@ fn on_core(here: &Here, core: u64, does: impl FnOnce(&mut Shard) -> Answer + Sen
     if core == u64::from(here.core()) {
         return Does::Here(shard(does));
     }
-    Does::There(submit(core as u32, REQUESTS, || async {
-        let answer = shard(does);
-        log::safe().await;
-        answer
-    }))
+    Does::There(submit(core as u32, REQUESTS, || log::safe(shard(does))))
 }
 
 /// The core of a hash: each has as many hashes, and those of one core follow each other.
@@ -191,7 +187,7 @@ async fn serve(here: Here, mut stream: TcpStream, idle: Option<Duration>) -> io:
                     Does::All(parts, is_one) => tell_all(parts, is_one, &mut out).await?,
                 }
             }
-            log::safe().await;
+            log::safe(()).await;
             stream.write_all(&out).await?;
             out.clear();
             match (ends, taken == 0 || input.is_empty()) {
@@ -242,7 +238,8 @@ fn main() -> Result<(), fairexec_rt::Error> {
     let journal = flag("--journal").map_or(Journal::Off, |it| it.parse().map_or(Journal::Parts(it.into()), Journal::Last));
     let pin = count("--pin").map_or(Pin::No, |it| Pin::From(it as usize));
     let server = Executor::builder().cores(count("--cores").unwrap_or(2)).pin(pin).journal(journal).stop_on_signals(Duration::from_secs(10));
-    let server = server.queue("requests", 1000).queue("compaction", 100).slice(background::slice());
+    // Many requests go together in a long run, which only delays what has fewer shares.
+    let server = server.queue("requests", 1000).slice(Duration::from_micros(100)).queue("compaction", 100).slice(background::slice());
     let report = server.run(|here| run(here, port, idle, folder.clone(), fsync, background))?;
     eprintln!("kv: {} turns", report.cores.iter().map(|it| it.turns).sum::<u64>());
     Ok(())
