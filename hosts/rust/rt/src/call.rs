@@ -2,9 +2,12 @@
 
 use crate::local::{here, wake_together, Local};
 use crate::shared::{lock, Queue};
+use std::any::Any;
+use std::cell::UnsafeCell;
 use std::fmt;
 use std::future::Future;
-use std::panic::{catch_unwind, AssertUnwindSafe};
+use std::marker::PhantomData;
+use std::panic::{catch_unwind, resume_unwind, AssertUnwindSafe, RefUnwindSafe};
 use std::pin::Pin;
 use std::sync::atomic::{AtomicBool, Ordering};
 use std::sync::{Arc, Mutex};
@@ -50,10 +53,12 @@ impl From<CallError> for std::io::Error {
     }
 }
 
-/// What both sides of a call share.
-struct Both<T> {
+/// What both sides of a call share, and its work, all in one place of memory.
+struct Both<T, W: ?Sized = dyn Any> {
     is_given_up: AtomicBool,
     answer: Mutex<Answer<T>>,
+    // It is the callee's. Once there is no `Start` any more it has ended, and has nothing to drop.
+    work: UnsafeCell<W>,
 }
 
 struct Answer<T> {
@@ -64,24 +69,19 @@ struct Answer<T> {
     callee: Option<Waker>,
 }
 
-/// The side of a call that tells its answer. One that is dropped tells that the call was.
-pub(crate) struct Slot<T>(Option<Arc<Both<T>>>);
+// SAFETY: one `Start` alone uses the work. It has a function that is `Send`, by the bounds of `Start::new`, until the first poll: from then on it is a
+// `Started`, which stays on its thread. The answer is `Send`.
+unsafe impl<T: Send, W: ?Sized> Send for Both<T, W> {}
+// SAFETY: as above.
+unsafe impl<T: Send, W: ?Sized> Sync for Both<T, W> {}
 
-impl<T> Slot<T> {
-    pub(crate) fn new() -> (Slot<T>, Call<T>) {
-        let answer = Mutex::new(Answer { value: None, caller: None, callee: None });
-        let shared = Arc::new(Both { is_given_up: AtomicBool::new(false), answer });
-        (Slot(Some(Arc::clone(&shared))), Call(Some(shared)))
-    }
+// A panic of the work ends it, and nothing is left half done under the lock.
+impl<T, W: ?Sized> RefUnwindSafe for Both<T, W> {}
 
-    pub(crate) fn tell(mut self, value: Result<T, CallError>) {
-        self.put(value);
-    }
-
-    fn put(&mut self, value: Result<T, CallError>) {
-        let Some(shared) = self.0.take() else { return };
+impl<T, W: ?Sized> Both<T, W> {
+    fn tell(&self, value: Result<T, CallError>) {
         let (caller, _callee) = {
-            let mut answer = lock(&shared.answer);
+            let mut answer = lock(&self.answer);
             answer.value = Some(value);
             (answer.caller.take(), answer.callee.take())
         };
@@ -90,26 +90,14 @@ impl<T> Slot<T> {
         }
     }
 
-    /// Whether nobody wants the answer.
-    fn is_given_up(&self) -> bool {
-        self.0.as_ref().map_or(true, |it| it.is_given_up.load(Ordering::Acquire))
-    }
-
-    /// The same for a task that waits. It is woken when nobody wants the answer any more.
+    /// Whether nobody wants the answer. Else the task of this waker waits, and is woken when nobody wants it any more.
     fn is_given_up_or_wakes(&self, cx: &Context<'_>) -> bool {
-        let Some(shared) = &self.0 else { return true };
-        let mut answer = lock(&shared.answer);
+        let mut answer = lock(&self.answer);
         if !answer.callee.as_ref().is_some_and(|it| it.will_wake(cx.waker())) {
             answer.callee = Some(cx.waker().clone());
         }
         // It is set under the lock.
-        shared.is_given_up.load(Ordering::Relaxed)
-    }
-}
-
-impl<T> Drop for Slot<T> {
-    fn drop(&mut self) {
-        self.put(Err(CallError::Dropped));
+        self.is_given_up.load(Ordering::Relaxed)
     }
 }
 
@@ -171,13 +159,7 @@ impl<T> Drop for Call<T> {
     }
 }
 
-/// A call: its function, then the future that this makes, until that has ended or nobody wants the answer.
-struct Work<M, F: Future> {
-    // It is dropped before the slot tells that it was.
-    step: Step<M, F>,
-    slot: Slot<F::Output>,
-}
-
+/// The work of a call: its function, then the future that this makes, until that has ended or nobody wants the answer.
 enum Step<M, F> {
     Makes(M),
     Waits(F),
@@ -204,32 +186,58 @@ impl<M: FnOnce() -> F, F: Future> Step<M, F> {
     }
 }
 
-impl<M: FnOnce() -> F, F: Future> Future for Work<M, F> {
-    type Output = ();
+/// The callee's side of a call, whose answer may have any type.
+trait Work: Send + Sync {
+    /// Polls the work. It tells its answer if it ends.
+    ///
+    /// # Safety
+    ///
+    /// The caller has the `Start` of this, and calls nothing else here meanwhile. All polls and `end` are on one thread.
+    unsafe fn poll(&self, cx: &mut Context<'_>) -> Poll<()>;
 
-    fn poll(self: Pin<&mut Self>, cx: &mut Context<'_>) -> Poll<()> {
-        // SAFETY: nothing here moves the future.
-        let Work { step, slot } = unsafe { self.get_unchecked_mut() };
-        if !slot.is_given_up() {
-            // SAFETY: it is pinned.
+    /// Drops what is left of the work, and tells that the call was dropped if it told no answer.
+    ///
+    /// # Safety
+    ///
+    /// As `poll`. If that wasn't called, it may be on any thread.
+    unsafe fn end(&self);
+}
+
+impl<M: FnOnce() -> F, F: Future> Work for Both<F::Output, Step<M, F>>
+where
+    F::Output: Send,
+{
+    unsafe fn poll(&self, cx: &mut Context<'_>) -> Poll<()> {
+        // SAFETY: as the caller says.
+        let step = unsafe { &mut *self.work.get() };
+        if !self.is_given_up.load(Ordering::Acquire) {
+            // SAFETY: it stands in its `Arc` until the end.
             match catch_unwind(AssertUnwindSafe(|| unsafe { step.poll(cx) })) {
-                Ok(Poll::Pending) if !slot.is_given_up_or_wakes(cx) => return Poll::Pending,
+                Ok(Poll::Pending) if !self.is_given_up_or_wakes(cx) => return Poll::Pending,
                 Ok(Poll::Pending) => {}
-                Ok(Poll::Ready(value)) => slot.put(Ok(value)),
-                Err(_) => slot.put(Err(CallError::Panicked)),
+                Ok(Poll::Ready(value)) => self.tell(Ok(value)),
+                Err(_) => self.tell(Err(CallError::Panicked)),
             }
         }
         *step = Step::Ended;
         Poll::Ready(())
     }
+
+    unsafe fn end(&self) {
+        // SAFETY: as the caller says.
+        let step = unsafe { &mut *self.work.get() };
+        if let Step::Ended = step {
+            return;
+        }
+        // It is dropped before that is told.
+        let dropped = catch_unwind(AssertUnwindSafe(|| *step = Step::Ended));
+        self.tell(Err(CallError::Dropped));
+        dropped.unwrap_or_else(|panic| resume_unwind(panic));
+    }
 }
 
-/// A call on its way: it is started in a queue of the core that it comes to.
-pub(crate) struct Start(Pin<Box<dyn Future<Output = ()>>>);
-
-// SAFETY: it is a `Work` that nobody has polled: `start` takes the `Start` apart. So it has the function and the slot of the answer, both of which are
-// `Send` by the bounds of `new`. The future, which needn't be `Send`, is made by the first poll.
-unsafe impl Send for Start {}
+/// A call on its way: it is started in a queue of the core that it comes to. One that is dropped tells that the call was.
+pub(crate) struct Start(Arc<dyn Work>);
 
 impl Start {
     pub(crate) fn new<F, T>(make: impl FnOnce() -> F + Send + 'static) -> (Start, Call<T>)
@@ -237,13 +245,33 @@ impl Start {
         F: Future<Output = T> + 'static,
         T: Send + 'static,
     {
-        let (slot, call) = Slot::new();
-        (Start(Box::pin(Work { step: Step::Makes(make), slot })), call)
+        let answer = Mutex::new(Answer { value: None, caller: None, callee: None });
+        let both = Arc::new(Both { is_given_up: AtomicBool::new(false), answer, work: UnsafeCell::new(Step::Makes(make)) });
+        (Start(Arc::<Both<T, Step<_, F>>>::clone(&both)), Call(Some(both)))
     }
 
     /// Starts it on this core, in this queue, whose run it is.
     pub(crate) fn start(self, local: &Local, queue: u32) {
-        local.start_now(queue, self.0);
+        local.start_now(queue, Started(self, PhantomData));
+    }
+}
+
+impl Drop for Start {
+    fn drop(&mut self) {
+        // SAFETY: this is the `Start`, and that of a `Started` is dropped on its thread.
+        unsafe { self.0.end() }
+    }
+}
+
+/// A call that was started. It stays on its thread.
+pub(crate) struct Started(Start, PhantomData<*const ()>);
+
+impl Future for Started {
+    type Output = ();
+
+    fn poll(self: Pin<&mut Self>, cx: &mut Context<'_>) -> Poll<()> {
+        // SAFETY: this has the `Start`, and stays on the thread of the first poll.
+        unsafe { self.0 .0.poll(cx) }
     }
 }
 

@@ -245,13 +245,13 @@ impl<'a> Driver<'a> {
                             Err((error, _)) => (error, None),
                         }
                     }
-                    Sending::Shares(queue, shares, slot) => match self.core.set_shares(to as u32, queue, shares) {
+                    Sending::Shares(queue, shares, told) => match self.core.set_shares(to as u32, queue, shares) {
                         Ok(ticket) => {
-                            sent.shares.push((ticket, slot));
+                            sent.shares.push((ticket, told));
                             did = true;
                             continue;
                         }
-                        Err(error) => (error, Some(Sending::Shares(queue, shares, slot))),
+                        Err(error) => (error, Some(Sending::Shares(queue, shares, told))),
                     },
                 };
                 drop(sent);
@@ -295,9 +295,9 @@ impl<'a> Driver<'a> {
                 match self.core.redeem(&sent.shares[at].0) {
                     Err(fairexec::Error::Pending) => at += 1,
                     told => {
-                        let (_, slot) = sent.shares.swap_remove(at);
+                        let (_, caller) = sent.shares.swap_remove(at);
                         if let Outcome::Answered(Answer::SharesSet) = told? {
-                            slot.tell(Ok(()));
+                            caller.start(self.local, 0);
                         }
                         did = true;
                     }

@@ -1,5 +1,6 @@
 //! The first poll of a call. Most calls end by it, so a task is made of those alone that have to wait.
 
+use crate::call::Started;
 use crate::local::Local;
 use crate::task;
 use std::future::Future;
@@ -56,20 +57,20 @@ impl First {
 }
 
 impl Local {
-    /// Polls a future in the run that goes on. If it has to wait, it becomes a task of this queue.
-    pub(crate) fn start_now(&self, queue: u32, mut future: Pin<Box<dyn Future<Output = ()>>>) {
+    /// Polls a call in the run that goes on. If it has to wait, it becomes a task of this queue.
+    pub(crate) fn start_now(&self, queue: u32, mut call: Started) {
         let first = self.first.take().unwrap_or_default();
-        let told = catch_unwind(AssertUnwindSafe(|| future.as_mut().poll(&mut Context::from_waker(&first.waker))));
+        let told = catch_unwind(AssertUnwindSafe(|| Pin::new(&mut call).poll(&mut Context::from_waker(&first.waker))));
         match told {
-            Ok(Poll::Pending) => self.goes_on(queue, future, &first),
+            Ok(Poll::Pending) => self.goes_on(queue, call, &first),
             _ if first.is_new() => self.first.set(Some(first)),
             _ => {}
         }
     }
 
-    /// Makes a task of a future that waits. It is polled once more now, or, if it was woken meanwhile, once its queue comes to it.
-    fn goes_on(&self, queue: u32, future: Pin<Box<dyn Future<Output = ()>>>, first: &First) {
-        let (turn, waker) = task::detached(self, queue, future);
+    /// Makes a task of a call that waits. It is polled once more now, or, if it was woken meanwhile, once its queue comes to it.
+    fn goes_on(&self, queue: u32, call: Started, first: &First) {
+        let (turn, waker) = task::detached(self, queue, call);
         // Nobody else puts one there.
         let _ = first.wakes.task.set(waker);
         fence(Ordering::SeqCst);

@@ -1,6 +1,6 @@
 //! What the thread of a core has: its tasks, timers and reactor, and what goes out to other cores.
 
-use crate::call::{Slot, Start};
+use crate::call::Start;
 use crate::first::First;
 use crate::reactor::Reactor;
 use crate::shared::{Mail, Queue, Shared};
@@ -46,8 +46,8 @@ impl Calls {
 pub(crate) enum Sending {
     /// Calls, for a queue.
     Calls(u32, Calls),
-    /// Shares for a queue.
-    Shares(u32, u32, Slot<()>),
+    /// Shares for a queue, and what is started once it has them.
+    Shares(u32, u32, Start),
 }
 
 impl Sending {
@@ -67,7 +67,7 @@ pub(crate) struct Sent {
     /// How many calls these are.
     pub(crate) count: usize,
     /// New shares.
-    pub(crate) shares: Vec<(Ticket, Slot<()>)>,
+    pub(crate) shares: Vec<(Ticket, Start)>,
 }
 
 impl Sent {
@@ -122,6 +122,8 @@ pub(crate) struct Local {
     pub(crate) is_answer: Cell<bool>,
     // By the queue.
     begins: Vec<RefCell<Begins>>,
+    // Room of calls that came together, for some that go together.
+    spare: Cell<Vec<Start>>,
     // None while it is used.
     pub(crate) first: Cell<Option<First>>,
     // Room for mail.
@@ -186,6 +188,7 @@ impl Local {
             begins_calls: Cell::new(false),
             is_answer: Cell::new(false),
             begins: (0..queues).map(|_| RefCell::default()).collect(),
+            spare: Cell::default(),
             first: Cell::default(),
             mail: RefCell::default(),
             stopping: RefCell::default(),
@@ -213,7 +216,12 @@ impl Local {
     pub(crate) fn send(&self, core: u32, queue: u32, start: Start) {
         let mut outbox = self.outbox[core as usize].borrow_mut();
         match outbox.back_mut() {
-            Some(Sending::Calls(other, calls)) if *other == queue => calls.others.push(start),
+            Some(Sending::Calls(other, calls)) if *other == queue => {
+                if calls.others.capacity() == 0 {
+                    calls.others = self.spare.take();
+                }
+                calls.others.push(start);
+            }
             _ => outbox.push_back(Sending::Calls(queue, Calls::new(start))),
         }
     }
@@ -222,25 +230,24 @@ impl Local {
     /// all begun.
     pub(crate) fn begin_calls(&self, queue: u32, calls: &mut Calls) -> bool {
         let (begins, began) = (&self.begins[queue as usize], self.began.get());
-        let end = {
+        let mut left = {
             let Begins { waiting, begun } = &mut *begins.borrow_mut();
             waiting.extend(calls.first.take().into_iter().chain(calls.others.drain(..)));
-            *calls.end.get_or_insert(*begun + waiting.len() as u64)
+            calls.end.get_or_insert(*begun + waiting.len() as u64).saturating_sub(*begun)
         };
-        let next = || {
-            let Begins { waiting, begun } = &mut *begins.borrow_mut();
-            *begun += 1;
-            // It is gone if the core closes.
-            waiting.pop_front()
-        };
-        let has_all = || begins.borrow().begun >= end;
+        let spare = self.spare.take();
+        self.spare.set(if spare.capacity() < calls.others.capacity() { std::mem::take(&mut calls.others) } else { spare });
         self.begins_calls.set(true);
-        while !has_all() {
-            next().into_iter().for_each(|it| it.start(self, queue));
-            if has_all() {
-                break;
-            }
-            let now = wall_clock();
+        while left > 0 {
+            let next = {
+                let Begins { waiting, begun } = &mut *begins.borrow_mut();
+                *begun += 1;
+                // It is gone if the core closes.
+                waiting.pop_front()
+            };
+            next.into_iter().for_each(|it| it.start(self, queue));
+            left -= 1;
+            let now = if left > 0 { wall_clock() } else { break };
             if now.saturating_sub(began) >= self.slice.get() {
                 break;
             }
@@ -251,7 +258,7 @@ impl Local {
         for (port, answered) in self.shared.ports.iter().zip(&self.answered) {
             port.leave_all(&mut answered.borrow_mut());
         }
-        has_all()
+        left == 0
     }
 
     /// Polls the tasks of a queue that can go on, in their order, until one yields or the slice of the queue is over. `tells` is called behind each. Whether
@@ -324,7 +331,7 @@ impl Local {
         for mail in all.drain(..) {
             match mail {
                 Mail::Woken(queue, turn) => self.take_woken(queue, turn),
-                Mail::Shares(queue, shares, slot) => self.outbox[self.number as usize].borrow_mut().push_back(Sending::Shares(queue, shares, slot)),
+                Mail::Shares(queue, shares, told) => self.outbox[self.number as usize].borrow_mut().push_back(Sending::Shares(queue, shares, told)),
                 Mail::Start(queue, start) => {
                     if !self.has_closed.get() {
                         self.tell_busy();

@@ -1,12 +1,13 @@
 //! What all threads reach of an executor.
 
 use crate::barrier::Barrier;
-use crate::call::{Call, Slot, Start};
+use crate::call::{Call, Start};
 use crate::local::Job;
 use crate::report::{CoreStats, QueueStats};
 use crate::stop::Ending;
 use crate::task::Turn;
 use fairexec::linked::{Core, Ringer};
+use std::future::ready;
 use std::sync::atomic::{AtomicBool, AtomicU64, Ordering};
 use std::sync::{Arc, Mutex, MutexGuard, PoisonError};
 use std::time::Duration;
@@ -68,7 +69,7 @@ pub(crate) enum Mail {
     /// A call of a thread that is no core.
     Start(u32, Start),
     /// Shares for a queue, from such a thread.
-    Shares(u32, u32, Slot<()>),
+    Shares(u32, u32, Start),
 }
 
 /// What other threads reach of a core. No other core has something on these lines of a cache.
@@ -281,8 +282,8 @@ impl Handle {
     /// ```
     pub fn set_shares(&self, core: u32, queue: Queue, shares: u32) -> Call<()> {
         check_shares(shares);
-        let (slot, call) = Slot::new();
-        self.port(core, queue).leave(Mail::Shares(queue.0, shares, slot));
+        let (told, call) = Start::new(|| ready(()));
+        self.port(core, queue).leave(Mail::Shares(queue.0, shares, told));
         call
     }
 

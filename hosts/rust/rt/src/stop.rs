@@ -1,12 +1,12 @@
 //! How an executor stops, and what tasks ask of it as a whole.
 
-use crate::call::{Call, Slot};
+use crate::call::{Call, Start};
 use crate::local::{here, with_here, Sending};
 use crate::report::CoreStats;
 use crate::shared::{check_shares, lock, Queue};
 use std::any::Any;
 use std::error::Error;
-use std::future::Future;
+use std::future::{ready, Future};
 use std::marker::PhantomData;
 use std::pin::Pin;
 use std::sync::atomic::{AtomicBool, Ordering};
@@ -238,8 +238,8 @@ pub fn set_shares(core: u32, queue: Queue, shares: u32) -> Call<()> {
     check_shares(shares);
     here(|it| {
         it.check(core, queue);
-        let (slot, call) = Slot::new();
-        it.outbox[core as usize].borrow_mut().push_back(Sending::Shares(queue.0, shares, slot));
+        let (told, call) = Start::new(|| ready(()));
+        it.outbox[core as usize].borrow_mut().push_back(Sending::Shares(queue.0, shares, told));
         call
     })
 }
