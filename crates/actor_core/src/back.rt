@@ -22,7 +22,7 @@ use std::alloc::Allocator;
 // The job that the pick handed back, why, and its order.
 fn back_of<J: Drop>(picked: Result<Turn<J>, PickError>) -> (JobId, Reason, Order<J>)
     requires { IsBack picked }
-    ensures { picked ≡ Ok (Back result.0 result.1 result.2) }
+    ensures { picked ≡ Ok (Back result.0 result.2 result.1) }
 {
     match picked {
         Ok(Turn::Back(name, order, reason)) => (name, reason, order),
