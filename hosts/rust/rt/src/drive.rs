@@ -2,11 +2,11 @@
 
 use crate::builder::Setup;
 use crate::journal::{Notes, Taker};
-use crate::local::{Job, Local, Sending};
+use crate::local::{Job, Local};
 use crate::own::Own;
 use crate::shared::Port;
 use crate::Error;
-use fairexec::linked::{Answer, Core, Cx, Outcome, Step};
+use fairexec::linked::{Answer, Core, Cx, Outcome, Step, Ticket};
 use fairexec::wall_clock;
 use fairexec::Mode;
 use std::sync::atomic::Ordering;
@@ -68,11 +68,42 @@ fn run(local: &Local, job: &mut Job, cx: &mut Cx<'_, Job>, own: &mut Own, setup:
             is_over
         }
     };
+    // What runs next may be long. An error comes again behind the round, which tells it.
+    if !local.has_closed.get() {
+        let _ = send_calls(local, |to, queue, job| cx.submit(to, queue, job));
+    }
     if is_over {
         Step::Done(0)
     } else {
         Step::Yield
     }
+}
+
+/// Sends calls, by the core or by a run on it, as far as the links have room.
+fn send_calls(local: &Local, mut submit: impl FnMut(u32, u32, Job) -> Result<Ticket, (fairexec::Error, Job)>) -> Result<bool, Error> {
+    let mut did = false;
+    for (to, outbox) in (0..).zip(&local.outbox) {
+        loop {
+            let Some((queue, calls)) = outbox.borrow_mut().pop_front() else { break };
+            let count = calls.len();
+            match submit(to, queue, Job::Calls(calls)) {
+                Ok(ticket) => local.sent[to as usize].borrow_mut().add_calls(queue, ticket, count),
+                // The core is closing: who calls is told by the drop.
+                Err((fairexec::Error::Closed, calls)) => drop(calls),
+                Err((error, calls)) => {
+                    if let Job::Calls(calls) = calls {
+                        outbox.borrow_mut().push_front((queue, calls));
+                    }
+                    match error {
+                        fairexec::Error::Full => break,
+                        error => return Err(error.into()),
+                    }
+                }
+            }
+            did = true;
+        }
+    }
+    Ok(did)
 }
 
 /// Tells of a task or of calls whose run ends now, if it was slow.
@@ -181,10 +212,7 @@ impl<'a> Driver<'a> {
     /// Whether a step that did something has left nothing to do: its round ended since no queue had work, and nothing became ready meanwhile.
     fn is_idle(&self) -> bool {
         let local = self.local;
-        self.own.runs.ran_out(self.setup.round)
-            && self.own.has_redeemed()
-            && !local.has_some_ready()
-            && local.outbox.iter().all(|it| it.borrow().is_empty())
+        self.own.runs.ran_out(self.setup.round) && self.own.has_redeemed() && !local.has_some_ready() && !local.has_some_to_send()
     }
 
     /// Waits for an event, a timer, or a ring. What comes before the ring can be seen is found by the look: `wait_by` has the argument. If it finds
@@ -226,47 +254,20 @@ impl<'a> Driver<'a> {
 
     /// Sends calls and orders, as far as the links have room.
     fn send(&mut self) -> Result<bool, Error> {
-        let mut did = false;
-        for (to, outbox) in self.local.outbox.iter().enumerate() {
-            loop {
-                let Some(sending) = outbox.borrow_mut().pop_front() else { break };
-                let mut sent = self.local.sent[to].borrow_mut();
-                let (error, sending) = match sending {
-                    Sending::Calls(queue, calls) => {
-                        let count = calls.len();
-                        match self.core.submit(to as u32, queue, Job::Calls(calls)) {
-                            Ok(ticket) => {
-                                sent.calls[queue as usize].push_back((ticket, count));
-                                sent.count += count;
-                                did = true;
-                                continue;
-                            }
-                            Err((error, Job::Calls(calls))) => (error, Some(Sending::Calls(queue, calls))),
-                            Err((error, _)) => (error, None),
-                        }
-                    }
-                    Sending::Shares(queue, shares, told) => match self.core.set_shares(to as u32, queue, shares) {
-                        Ok(ticket) => {
-                            sent.shares.push((ticket, told));
-                            did = true;
-                            continue;
-                        }
-                        Err(error) => (error, Some(Sending::Shares(queue, shares, told))),
-                    },
-                };
-                drop(sent);
-                match error {
-                    fairexec::Error::Full => {
-                        outbox.borrow_mut().extend(sending);
-                        outbox.borrow_mut().rotate_right(1);
-                        break;
-                    }
-                    // The core is closing: who calls is told by the drop.
-                    fairexec::Error::Closed => drop(sending),
-                    error => return Err(error.into()),
+        let mut did = send_calls(self.local, |to, queue, job| self.core.submit(to, queue, job))?;
+        loop {
+            let Some(order) = self.local.orders.borrow_mut().pop_front() else { break };
+            match self.core.set_shares(order.core, order.queue, order.shares) {
+                Ok(ticket) => self.local.sent[order.core as usize].borrow_mut().shares.push((ticket, order.told)),
+                Err(fairexec::Error::Full) => {
+                    self.local.orders.borrow_mut().push_front(order);
+                    break;
                 }
-                did = true;
+                // The core is closing.
+                Err(fairexec::Error::Closed) => drop(order),
+                Err(error) => return Err(error.into()),
             }
+            did = true;
         }
         Ok(did)
     }
@@ -313,7 +314,7 @@ impl<'a> Driver<'a> {
         if !is_stopping || local.is_quiet.get() || !local.alive.borrow().is_empty() {
             return;
         }
-        if local.outbox.iter().all(|it| it.borrow().is_empty()) && local.sent.iter().all(|it| it.borrow().len() == 0) {
+        if !local.has_some_to_send() && local.sent.iter().all(|it| it.borrow().len() == 0) {
             local.is_quiet.set(true);
             local.shared.ending.set_quiet(local.number, true);
         }

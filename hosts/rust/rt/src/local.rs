@@ -42,22 +42,13 @@ impl Calls {
     }
 }
 
-/// What goes to another core once its link has room.
-pub(crate) enum Sending {
-    /// Calls, for a queue.
-    Calls(u32, Calls),
-    /// Shares for a queue, and what is started once it has them.
-    Shares(u32, u32, Start),
-}
-
-impl Sending {
-    /// How many calls or orders.
-    fn len(&self) -> usize {
-        match self {
-            Sending::Calls(_, calls) => calls.len(),
-            Sending::Shares(..) => 1,
-        }
-    }
+/// An order to give a queue shares, once the link to its core has room.
+pub(crate) struct Order {
+    pub(crate) core: u32,
+    pub(crate) queue: u32,
+    pub(crate) shares: u32,
+    /// What is started once that was done.
+    pub(crate) told: Start,
 }
 
 /// What was submitted to a core and whose outcome isn't known.
@@ -71,6 +62,12 @@ pub(crate) struct Sent {
 }
 
 impl Sent {
+    /// So many calls went together to this queue.
+    pub(crate) fn add_calls(&mut self, queue: u32, ticket: Ticket, count: usize) {
+        self.calls[queue as usize].push_back((ticket, count));
+        self.count += count;
+    }
+
     /// How many calls and orders.
     pub(crate) fn len(&self) -> usize {
         self.count + self.shares.len()
@@ -112,8 +109,10 @@ pub(crate) struct Local {
     /// When the run began that goes on, and the slice of its queue.
     pub(crate) began: Cell<u64>,
     pub(crate) slice: Cell<u64>,
+    /// By the core: calls that go there once its link has room, with their queue.
+    pub(crate) outbox: Vec<RefCell<VecDeque<(u32, Calls)>>>,
+    pub(crate) orders: RefCell<VecDeque<Order>>,
     /// By the core.
-    pub(crate) outbox: Vec<RefCell<VecDeque<Sending>>>,
     pub(crate) sent: Vec<RefCell<Sent>>,
     /// Callers on other cores that were answered in the run of calls that goes on, by their core. They go there together.
     pub(crate) answered: Vec<RefCell<Vec<Mail>>>,
@@ -183,6 +182,7 @@ impl Local {
             began: Cell::new(0),
             slice: Cell::new(0),
             outbox: (0..cores).map(|_| RefCell::default()).collect(),
+            orders: RefCell::default(),
             sent: (0..cores).map(|_| RefCell::new(sent())).collect(),
             answered: (0..cores).map(|_| RefCell::default()).collect(),
             begins_calls: Cell::new(false),
@@ -208,7 +208,7 @@ impl Local {
     /// Whether the link to a core takes no more.
     pub(crate) fn is_full(&self, core: u32) -> bool {
         let core = core as usize;
-        let waiting: usize = self.outbox[core].borrow().iter().map(Sending::len).sum();
+        let waiting: usize = self.outbox[core].borrow().iter().map(|(_, calls)| calls.len()).sum();
         waiting + self.sent[core].borrow().len() >= self.shared.places as usize
     }
 
@@ -216,13 +216,13 @@ impl Local {
     pub(crate) fn send(&self, core: u32, queue: u32, start: Start) {
         let mut outbox = self.outbox[core as usize].borrow_mut();
         match outbox.back_mut() {
-            Some(Sending::Calls(other, calls)) if *other == queue => {
+            Some((other, calls)) if *other == queue => {
                 if calls.others.capacity() == 0 {
                     calls.others = self.spare.take();
                 }
                 calls.others.push(start);
             }
-            _ => outbox.push_back(Sending::Calls(queue, Calls::new(start))),
+            _ => outbox.push_back((queue, Calls::new(start))),
         }
     }
 
@@ -331,7 +331,7 @@ impl Local {
         for mail in all.drain(..) {
             match mail {
                 Mail::Woken(queue, turn) => self.take_woken(queue, turn),
-                Mail::Shares(queue, shares, told) => self.outbox[self.number as usize].borrow_mut().push_back(Sending::Shares(queue, shares, told)),
+                Mail::Shares(queue, shares, told) => self.orders.borrow_mut().push_back(Order { core: self.number, queue, shares, told }),
                 Mail::Start(queue, start) => {
                     if !self.has_closed.get() {
                         self.tell_busy();
@@ -379,11 +379,18 @@ impl Local {
             let all = outbox.take();
             drop(all);
         }
+        let orders = self.orders.take();
+        drop(orders);
         for begins in &self.begins {
             let all = std::mem::take(&mut begins.borrow_mut().waiting);
             drop(all);
         }
         self.timers.clear();
+    }
+
+    /// Whether there is something for other cores that their links didn't take yet, or an order.
+    pub(crate) fn has_some_to_send(&self) -> bool {
+        self.outbox.iter().any(|it| !it.borrow().is_empty()) || !self.orders.borrow().is_empty()
     }
 
     pub(crate) fn has_some_ready(&self) -> bool {

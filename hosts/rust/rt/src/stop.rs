@@ -1,7 +1,7 @@
 //! How an executor stops, and what tasks ask of it as a whole.
 
 use crate::call::{Call, Start};
-use crate::local::{here, with_here, Sending};
+use crate::local::{here, with_here, Order};
 use crate::report::CoreStats;
 use crate::shared::{check_shares, lock, Queue};
 use std::any::Any;
@@ -239,7 +239,7 @@ pub fn set_shares(core: u32, queue: Queue, shares: u32) -> Call<()> {
     here(|it| {
         it.check(core, queue);
         let (told, call) = Start::new(|| ready(()));
-        it.outbox[core as usize].borrow_mut().push_back(Sending::Shares(queue.0, shares, told));
+        it.orders.borrow_mut().push_back(Order { core, queue: queue.0, shares, told });
         call
     })
 }

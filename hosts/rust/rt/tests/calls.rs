@@ -242,6 +242,7 @@ fn a_stop_ends_once_nothing_is_left() {
 fn shares_change_and_statistics_are_told() {
     Executor::builder()
         .cores(2)
+        .places(4)
         .queue("first", 1000)
         .queue("background", 100)
         .run(|here| async move {
@@ -249,7 +250,11 @@ fn shares_change_and_statistics_are_told() {
             if here.core() == 1 {
                 return;
             }
-            set_shares(1, BACKGROUND, 777).await.unwrap();
+            // These are more orders than the link has places.
+            let orders: Vec<_> = (700..=777).map(|it| set_shares(1, BACKGROUND, it)).collect();
+            for it in orders {
+                it.await.unwrap();
+            }
             sleep(Duration::from_millis(60)).await;
             // A core tells its statistics each 20 ms.
             assert_eq!(stats()[1].queues[1].shares, 777);
