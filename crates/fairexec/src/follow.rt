@@ -25,7 +25,7 @@ use fair_parts::{has_file, house_in, part_files};
 use fairexec_report::verdict::VerdictLine;
 use judge_audit::{Verdict, audit};
 use judge_fronts::is_lost;
-use judge_parts::{Pace, Unread, few_places, followed_parts, front_of_parts};
+use judge_parts::{Pace, Unread, followed_parts, front_of_parts};
 use judge_replay::{Found, ReplayError};
 use note_journal::Assembly;
 use std::alloc::{AllocError, AllocGlobal, Global};
@@ -209,7 +209,7 @@ fn await_end<C: Eprint, K: Clock, R: ReadOnlyFiles + AllocGlobal>(
     }
 }
 
-/// What the journals are that the files come to tell. A house of few places is tried first: what it finds to differ may be a link that held more.
+/// What the journals are that the files come to tell.
 fn followed<C: Eprint, K: Clock, R: ReadOnlyFiles + AllocGlobal>(
     console: &C,
     clock: &K,
@@ -220,37 +220,12 @@ fn followed<C: Eprint, K: Clock, R: ReadOnlyFiles + AllocGlobal>(
     requires { (head : R.File) × TellsHouse (R.File.remaining head) house }
     ensures { result ≡ Ok Sound → AreSoundFiles R.File.remaining }
 {
-    let few = few_places(house);
-    match followed_with(console, clock, rt, folder, house, few) {
-        Ok(Found::Differs { actor, read }) => {
-            if few < house.cap {
-                followed_with(console, clock, rt, folder, house, house.cap)
-            } else {
-                Ok(Found::Differs { actor, read })
-            }
-        }
-        found => found,
-    }
-}
-
-/// What they are by a house whose links have so many places.
-fn followed_with<C: Eprint, K: Clock, R: ReadOnlyFiles + AllocGlobal>(
-    console: &C,
-    clock: &K,
-    rt: &R,
-    folder: &str,
-    house: HouseNumbers,
-    places: u16,
-) -> Result<Found, Unread>
-    requires { (head : R.File) × TellsHouse (R.File.remaining head) house }
-    ensures { result ≡ Ok Sound → AreSoundFiles R.File.remaining }
-{
     let files = match part_files(rt, folder, house.cores) {
         Ok(files) => files,
         Err(fault) => return Err(unread(fault)),
     };
     let watch = Watch::of(console, clock, rt, folder, house.cores);
-    match followed_parts(rt.alloc(), house, places, files, watch) {
+    match followed_parts(rt.alloc(), house, files, watch) {
         Ok(found) => Ok(found),
         Err(ReplayError::Untold(why)) => Err(why),
         Err(_) => Err(unread(BytesFault::Memory)),

@@ -17,7 +17,7 @@ use crate::print;
 use fair_args::ReadOnlyFiles;
 use fair_parts::{gathered, house_in, part_files};
 use fairexec_report::audit_text;
-use judge_parts::{few_places, judged_parts};
+use judge_parts::judged_parts;
 use judge_replay::Found;
 use std::alloc::{AllocGlobal, Global};
 use text_bytes::{ByteSink, TextSource};
@@ -63,44 +63,17 @@ pub(crate) fn judge_whole<R: ReadOnlyFiles + AllocGlobal, S: ByteSink>(
     }
 }
 
-/// What the journals are that the files tell, if all can be read, each beside the others. A house of few places is tried first: what it finds
-/// to differ may be a link that held more.
+/// What the journals are that the files tell, if all can be read, each beside the others.
 fn found_in<R: ReadOnlyFiles + AllocGlobal>(rt: &R, folder: &str) -> Option<Found>
     ensures { result ≡ Some Sound → AreSoundFiles R.File.remaining }
 {
     let Ok(house) = house_in(rt, folder) else {
         return None;
     };
-    let few = few_places(house);
-    let found = found_with(rt, folder, house, few);
-    if few < house.cap && may_be_full(&found) {
-        return found_with(rt, folder, house, house.cap);
-    }
-    found
-}
-
-/// Whether a house found that journals differ.
-fn may_be_full(found: &Option<Found>) -> bool {
-    match found {
-        Some(Found::Differs { .. }) => true,
-        _ => false,
-    }
-}
-
-/// What the journals are by a house whose links have so many places.
-fn found_with<R: ReadOnlyFiles + AllocGlobal>(
-    rt: &R,
-    folder: &str,
-    house: HouseNumbers,
-    places: u16,
-) -> Option<Found>
-    requires { (head : R.File) × TellsHouse (R.File.remaining head) house }
-    ensures { result ≡ Some Sound → AreSoundFiles R.File.remaining }
-{
     let Ok(files) = part_files(rt, folder, house.cores) else {
         return None;
     };
-    match judged_parts(rt.alloc(), house, places, files) {
+    match judged_parts(rt.alloc(), house, files) {
         Ok(found) => Some(found),
         Err(_) => None,
     }

@@ -11,4 +11,4 @@ mod sound;
 pub use feeds::{Feeds, Unread};
 pub use front::front_of_parts;
 pub use pace::Pace;
-pub use sound::{few_places, followed_parts, judged_parts};
+pub use sound::{followed_parts, judged_parts};

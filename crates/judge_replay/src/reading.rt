@@ -168,8 +168,7 @@ fn went_on(round: Round) -> bool {
     }
 }
 
-/// What the journals are that are told. If a house writes them, whose links hold at most so many submissions, they are sound. Memory is taken for
-/// these alone, so a house of fewer places may be tried first: it writes the same unless a link held more.
+/// What the journals are that are told. If a house writes them, whose links hold at most so many submissions, they are sound.
 ///
 /// # Errors
 ///
