@@ -86,3 +86,24 @@ module _ {A : Type 0} where
         λ passes. subst (λ keys. LastStandsBefore keys key) (sym whole) (last-from (keys_before vrs nodes (end - 1)) one.0 key ((Decides-stands_before one.0 key).0 (sym same ∙ passes))),
         λ stands. same ∙ (Decides-stands_before one.0 key).1 (last-to (keys_before vrs nodes (end - 1)) one.0 key (subst (λ keys. LastStandsBefore keys key) whole stands)),
       )
+
+  -- the only node has another virtual runtime
+  same-place : (was vr : ℕ) (place : Option (Box (Node A) A)) (key : Key) → keys_at was place ≡ key ∷ [] → keys_at vr place ≡ (record { vr = vr; queue = key.queue }) ∷ []
+  same-place was vr None key is = cc
+  same-place was vr (Some node) key is =
+      let same : key_of was node.value ≡ key = cc in
+      ap (λ (one : Key). (record { vr = vr; queue = one.queue }) ∷ []) same
+
+  pub keys-only : (vrs : List ℕ) (nodes : List (Option (Box (Node A) A))) (begin end vr : ℕ) (key : Key) → IsFront vrs nodes begin end → front_keys vrs nodes ≡ key ∷ [] → front_keys (set vrs begin vr) nodes ≡ (record { vr = vr; queue = key.queue }) ∷ []
+  keys-only vrs nodes begin end vr key front is =
+      let len = front-len vrs nodes begin end front in
+      let one : length (front_keys vrs nodes) ≡ 1 = ap (λ (keys : List Key). length keys) is in
+      let within : begin < length vrs = omega (arith, front.vrs_long, front.within, len, one) in
+      let long : length vrs ≡ length nodes = front.vrs_long ∙ sym front.nodes_long in
+      let alone : (k : ℕ) → begin < k → get_or nodes k None ≡ None = λ k high. front.free_behind k (omega (arith, len, one)) in
+      let place = get_or nodes begin None in
+      let whole : front_keys vrs nodes ≡ keys_at (get_or vrs begin 0) place = keys-split vrs nodes begin within long ∙ rw (before-first vrs nodes begin front.free_before (omega arith), behind-last vrs nodes begin alone) (append-nil (keys_at (get_or vrs begin 0) place)) in
+      let moved = set vrs begin vr in
+      keys-split moved nodes begin (omega (arith, length-set vrs begin vr)) (length-set vrs begin vr ∙ long)
+      ∙ rw (before-first moved nodes begin front.free_before (omega arith), behind-last moved nodes begin alone, get_or-set_same vrs begin vr 0 within) (append-nil (keys_at vr place))
+      ∙ same-place (get_or vrs begin 0) vr place key (sym whole ∙ is)

@@ -4,7 +4,7 @@ use Rattle.std.proofs.lemmas.Bool.{cases_Bool, both_ways, false_from_ne_true}
 use Rattle.std.proofs.lemmas.List.Folds.{list_any-append}
 use Rattle.std.proofs.lemmas.List.Elements.{filter-append}
 use Rattle.base_words.specs.declared.names.Key.{Key}
-use Rattle.core_timeline.specs.Rising.{StandsBefore, LastStandsBefore, stands_before, same_key, EachKey, IsRising, LacksQueue, has_key, has_queue, inserted, removed}
+use Rattle.core_timeline.specs.Rising.{StandsBefore, LastStandsBefore, stands_before, same_key, EachKey, IsRising, LacksQueue, IsOfQueues, has_key, has_queue, inserted, removed}
 use Rattle.core_timeline.specs.Tree.{KeyTree, IsFilled, IsLow}
 use Rattle.core_timeline.specs.Led.{levels, led_keys, led, IsLed}
 use Rattle.core_timeline.proofs.Before.{Decides-stands_before, StandsBefore-trans}
@@ -128,3 +128,20 @@ IsLow-led first later filled = λ digits below.
 
 -- what a node that is taken out asks of the front and of the tree
 pub ruleset of_both = (removed-from_tree, has_key-of_both)
+
+-- the only key is in the front, and stands elsewhere from then on
+none-left : (keys : List Key) → length keys ≡ 0 → keys ≡ []
+none-left [] none = refl
+none-left (key ∷ later) none = absurd (omega arith)
+
+pub moved-only : (first moved : List Key) (later : KeyTree) (vr count : ℕ) → count ≡ 1 → IsOfQueues (led_keys first later) × (count ≡ length (led_keys first later)) × IsLed first later →
+    ((key : Key) → first ≡ key ∷ [] → moved ≡ (record { vr = vr; queue = key.queue }) ∷ []) → IsOfQueues (led_keys moved later) × (count ≡ length (led_keys moved later)) × IsLed moved later
+moved-only [] moved later vr count one was moves =
+    let none = ap (λ (tree : KeyTree). length tree.keys) (was.2 refl) in
+    absurd (omega (arith, was.1, one, none))
+moved-only (key ∷ more) moved later vr count one was moves =
+    let parts : length (more ++ later.keys) ≡ length more + length later.keys = length-append more later.keys in
+    let front : more ≡ [] = none-left more (omega (arith, was.1, one, parts)) in
+    let tree : later.keys ≡ [] = none-left later.keys (omega (arith, was.1, one, parts)) in
+    let is : moved ≡ (record { vr = vr; queue = key.queue }) ∷ [] = moves key (ap (λ keys. key ∷ keys) front) in
+    rw (is, tree) (record { rising = (tt, tt); distinct = (tt, tt); numbered = (was.0.numbered.0, tt) }, one, λ none. cc)

@@ -125,6 +125,16 @@ impl<A: Allocator> Front<A> {
         }
     }
 
+    /// Gives the only node another virtual runtime.
+    #[inline]
+    pub(crate) fn move_only(&mut self, vr: u128)
+        requires { length self.old ≡ 1 }
+        ensures { (key : Key) → self.old ≡ key ∷ [] → self.new ≡ (record { vr = vr; queue = key.queue }) ∷ [] }
+    {
+        let first = self.places.begin;
+        self.places.vrs[first] = vr;
+    }
+
     /// Takes the first node out. Its virtual runtime is written to `vr`.
     #[inline]
     pub(crate) fn take_first(&mut self, vr: &mut u128) -> Box<Node<A>, A>

@@ -1,5 +1,9 @@
 //! The keys of the active queues, least first.
-ghost use Rattle.std.specs.Prelude.{◌≡◌, ◌≤◌, ◌↔◌, false, [], ◌∷◌, length, IsTrue, IsNone, IsSome, IfSome, IfNone, IfOk, Contains};
+//!
+//! - A key comes and goes with the slip of its queue, which is its node. `move_least` alone changes a key and asks for no slip.
+//! - `first` is a front for the least keys, if there is one. `later` has a key only while `first` has one too.
+//! - `len` counts both, so that a look at the count goes through neither.
+ghost use Rattle.std.specs.Prelude.{◌≡◌, ◌≢◌, ◌≤◌, ◌↔◌, false, List, [], ◌∷◌, length, IsTrue, IsNone, IsSome, IfSome, IfNone, IfOk, Contains};
 ghost use Rattle.core_timeline.specs.Rising.{LacksQueue, IsRising, HasDistinctQueues, has_queue, inserted, removed, first_key};
 ghost use Rattle.core_timeline.specs.Tree.{empty_tree, IsLow};
 ghost use Rattle.core_timeline.specs.Led.{levels};
@@ -114,6 +118,34 @@ impl<A: Allocator> Timeline<A> {
         let node = leave(&mut self.first, &mut self.later, &mut vr);
         self.len -= 1;
         Some((node.key(vr), Slip::from_node(node)))
+    }
+
+    /// Gives the queue of the least key another virtual runtime. Its node stays in its place if it is the only one.
+    #[inline(always)]
+    pub fn move_least(&mut self, vr: u128)
+        requires { self.old.keys ≢ [] }
+        ensures { (least : Key) → (later : List Key) → self.old.keys ≡ least ∷ later → self.new.keys ≡ inserted (record { vr = vr; queue = least.queue }) later }
+    {
+        if self.len != 1 {
+            self.move_along(vr);
+            return;
+        }
+        match &mut self.first {
+            Some(front) => front.move_only(vr),
+            None => self.move_along(vr),
+        }
+    }
+
+    /// The same: its node is taken out, and put into the place of its key.
+    #[inline(never)]
+    fn move_along(&mut self, vr: u128)
+        requires { self.old.keys ≢ [] }
+        ensures { (least : Key) → (later : List Key) → self.old.keys ≡ least ∷ later → self.new.keys ≡ inserted (record { vr = vr; queue = least.queue }) later }
+    {
+        let Some((_key, slip)) = self.take_least() else {
+            unreachable!()
+        };
+        self.insert(slip, vr);
     }
 
     /// Takes the queue of this key out, if the key is there, and gives its slip.
