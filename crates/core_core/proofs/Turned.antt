@@ -1,9 +1,12 @@
 -- A whole turn is that of the job that was told ahead.
-use Rattle.core_core.proofs.Names.{AfterPoll, ap, arith, Bool, Call, CoreView, false, first_key, goes_out, inl, inr, IsAhead, IsNext, JobId, JobOut, Key, KeyAtMost, List, Marks, Meaning, None, Ok, pick_notes, Picks, refl, return_reason}
+use Rattle.core_core.proofs.Names.{AfterPoll, ap, arith, Bool, Call, CoreView, false, first_key, goes_out, inl, inr, IsAhead, IsListed, IsNext, IsRising, JobId, JobOut, Key, KeyAtMost, List, Marks, Meaning, None, Ok, pick_notes, Picks, refl, return_reason}
 use Rattle.core_core.proofs.Names.{runtime_of, settle_notes, settled_of, SettlesOut, SettlesStep, Some, stays, Step, subst, sym, TakesOut, true, TurnsFirst, TurnsWhole, unwrap_or, waiting_of, ℕ, [], ◌∙◌, ◌∷◌, ◌≡◌}
 use Rattle.base_words.specs.declared.note.Note.TheVariants as notes
 use Rattle.base_jobs.specs.declared.job.Step.TheVariants as steps
 use Rattle.core_core.proofs.Closings.{out_taken, stays_taken}
+use Rattle.core_core.proofs.Entries.{some_from_is_any}
+use Rattle.core_core.proofs.Held.{held_none}
+use Rattle.core_core.proofs.Picking.{first_is_next, first_runtime, first_waits, some_keys}
 use Rattle.core_core.proofs.PollsSettled.{settles_yield, settles_stay, settles_park, settles_done}
 
 -- the first of a list of keys
@@ -29,6 +32,24 @@ module _ {J : Type 0} where
   -- only one queue is next
   next_same : (view : CoreView J) (one other : ℕ) → IsNext view one → IsNext view other → (waiting_of one view.queues ≡ [] → ⊥) → (waiting_of other view.queues ≡ [] → ⊥) → one ≡ other
   next_same view one other first second some any = least_same (runtime_of one view) one (runtime_of other view) other (first.least other any) (second.least one some)
+
+  -- its key is the first one
+  next_is_first : (view : CoreView J) (keys : List Key) (queue vr : ℕ) → IsListed view keys → IsRising keys → IsNext view queue → (waiting_of queue view.queues ≡ [] → ⊥) → vr ≡ runtime_of queue view →
+      (later : List Key) × (keys ≡ (record { vr = vr; queue = queue }) ∷ later)
+  next_is_first view [] queue vr listed rising next some stands = absurd (some_keys view [] (held_none view next.free next.no_turn) listed (queue, some) refl)
+  next_is_first view (key ∷ later) queue vr listed rising next some stands =
+      let first = first_is_next view (key ∷ later) key later refl listed next.free next.no_turn rising in
+      let waits = some_from_is_any (waiting_of key.queue view.queues) (first_waits view (key ∷ later) key later refl listed (held_none view next.free next.no_turn)) in
+      let at : key.queue ≡ queue = next_same view key.queue queue first next waits some in
+      let runtime : key.vr ≡ vr = sym (first_runtime view (key ∷ later) key later refl listed) ∙ ap (λ (one : ℕ). runtime_of one view) at ∙ sym stands in
+      (later, λ i. (record { vr = runtime i; queue = at i }) ∷ later)
+
+  pub ahead_is_first : (view : CoreView J) (keys : List Key) (queue vr : ℕ) (name : JobId) (started woken : Bool) → IsListed view keys → IsRising keys → IsAhead view queue vr name started woken →
+      (later : List Key) × (keys ≡ (record { vr = vr; queue = queue }) ∷ later)
+  ahead_is_first view keys queue vr name started woken listed rising is_ahead =
+      let front = is_ahead.front in
+      let some = some_front (waiting_of queue view.queues) (name, record { started = started; woken = woken }, front.0) front.1 front.2 in
+      next_is_first view keys queue vr listed rising is_ahead.next some is_ahead.stands
 
 -- the job that was told ahead goes out with these notes
 module _ {J : Type 0} (T : Type 0) where

@@ -1,20 +1,35 @@
 -- The first poll of a turn, from what is known inside: the head of the first queue goes out, is polled, and its poll is settled, which ends the turn or leaves it open.
-use Rattle.core_core.proofs.Names.{ap, arith, begun, Bool, Bursts, Call, CoreView, false, FitsTurns, get_or-set_same, has_bursts, is_any, is_done_step, is_some, IsBounded, IsCore, IsListed, IsRising, IsWithinLimits, JobOut, Key, keys_after}
+use Rattle.core_core.proofs.Names.{ap, arith, begun, Bool, Bursts, Call, CoreView, false, FitsTurns, get_or-set_same, has_bursts, IsAhead, is_any, is_done_step, is_some, IsBounded, IsCore, IsListed, IsRising, IsWithinLimits, JobId, JobOut, Key, keys_after}
 use Rattle.core_core.proofs.Names.{LacksQueue, lasted, length, List, longer, max, Meaning, no_tally, None, number_if, OpenTurn, Option, queue_count, queue_held, QueuesView, refl, runtime_of, set-set, settled_tally, shares_of, slice_set}
 use Rattle.core_core.proofs.Names.{slips_after, Some, Step, subst, sym, TakesOut, Tally, tally_of, true, TurnsFirst, TurnsFront, unsettled_count, unwrap_or, waiting_of, ℕ, ◌+◌, ◌<◌, ◌∙◌, ◌∷◌, ◌≡◌, ◌≤◌}
 use Rattle.std.specs.Prelude.{◌-◌}
+use Rattle.core_timeline.specs.Rising.{HasDistinctQueues}
 use Rattle.core_core.proofs.Counting.{some_inside}
 use Rattle.core_core.proofs.Fits.{picked_fits, tally_fits, IsBounded-from_turns}
 use Rattle.core_core.proofs.Held.{held_none}
 use Rattle.core_core.proofs.InTurn.{fits_in_turn, IsCore-settled_in_turn}
+use Rattle.core_core.proofs.Turned.{ahead_is_first}
 use Rattle.core_core.proofs.Turning.{begun_single, begun_open}
 use Rattle.core_core.proofs.Picking.{exists_if_waiting, first_runtime, first_waits, first_is_next}
 use Rattle.core_core.proofs.Whole.{IsCore-taken, IsCore-settled, turned_shares, settles_step}
+
+-- a key is the first one, and no other is of its queue
+pub record HasFirst (keys : List Key) (key : Key) : Type 0 where
+  pub later : List Key
+  pub are : keys ≡ key ∷ later
+  pub absent : LacksQueue key.queue later
 
 module _ {J : Type 0} where
   -- the queue of the first key exists
   pub first_exists : (view : CoreView J) (keys : List Key) (key : Key) (later : List Key) → keys ≡ key ∷ later → IsListed view keys → queue_held view ≡ None → key.queue < queue_count view.queues
   first_exists view keys key later are listed free = exists_if_waiting view.queues key.queue (first_waits view keys key later are listed free)
+
+  -- the key of the job that is told ahead is the first one
+  pub HasFirst-ahead : (view : CoreView J) (keys : List Key) (queue vr : ℕ) (name : JobId) (started woken : Bool) → IsListed view keys → IsRising keys → HasDistinctQueues keys → IsAhead view queue vr name started woken →
+      HasFirst keys (record { vr = vr; queue = queue })
+  HasFirst-ahead view keys queue vr name started woken listed rising distinct is_ahead =
+      let first = ahead_is_first view keys queue vr name started woken listed rising is_ahead in
+      record { later = first.0; are = first.1; absent = (subst HasDistinctQueues first.1 distinct).0 }
 
   -- its tally, as no poll of it is out
   pub first_fits : {T : Type 0} (meaning : Meaning J T) (view : CoreView J) (slips : List Bool) (keys : List Key) (inside room places queue : ℕ) → IsCore meaning view slips keys inside room places → queue_held view ≡ None →

@@ -1,7 +1,8 @@
 //! How a queue comes among those that may be picked.
-ghost use Rattle.std.specs.Prelude.{◌≡◌, ◌<◌, not, true, false};
+ghost use Rattle.std.specs.Prelude.{◌≡◌, ◌≢◌, ◌<◌, not, true, false, List, [], ◌∷◌, IfSome};
 ghost use Rattle.base_words.specs.Names.{is_number};
-ghost use Rattle.core_timeline.specs.Rising.{inserted, LacksQueue};
+ghost use Rattle.base_words.specs.declared.names.Key.{Key};
+ghost use Rattle.core_timeline.specs.Rising.{first_key, inserted, LacksQueue};
 ghost use Rattle.core_queues.specs.Slips.{queue_count, waiting_of, has_slip, without_slip};
 ghost use Rattle.core_core.specs.State.{is_any};
 ghost use Rattle.core_core.specs.Bursts.{queue_open};
@@ -49,6 +50,32 @@ pub(crate) fn enter_placed<J: Drop, A: Allocator + Clone>(
 {
     if !bursts.is_turn_of(queue) {
         enter(queues, ready, queue, vr);
+    }
+}
+
+/// The queue of the least key stands at this virtual runtime from then on if a job waits in it. Else its slip goes back to it. The head of
+/// the queue has had its turn.
+#[inline(always)]
+pub(crate) fn relist_least<J: Drop, A: Allocator + Clone>(
+    queues: &mut Queues<J, A>,
+    ready: &mut Timeline<A>,
+    queue: QueueNo,
+    vr: u128,
+)
+    requires exists { queue < queue_count queues.old }
+    requires out { has_slip queue queues.old ≡ false }
+    requires some { ready.old.keys ≢ [] }
+    requires least { IfSome (first_key ready.old.keys) (λ key. key.queue ≡ queue) }
+    ensures keys { (key : Key) → (later : List Key) → ready.old.keys ≡ key ∷ later → ready.new.keys ≡ keys_after (is_any (waiting_of queue queues.old)) vr queue later }
+    ensures slips { queues.new ≡ relisted (is_any (waiting_of queue queues.old)) queue queues.old }
+{
+    if queues.is_empty(queue) {
+        let Some((_key, slip)) = ready.take_least() else {
+            unreachable!()
+        };
+        queues.put_slip(slip);
+    } else {
+        ready.move_least(vr);
     }
 }
 

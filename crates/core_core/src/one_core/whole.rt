@@ -10,7 +10,7 @@ ghost use Rattle.core_core.specs.Whole.{IsAhead, TellsAhead, TurnsFirst, TurnsWh
 
 use super::Core;
 use crate::out::is_busy;
-use crate::ready::relist;
+use crate::ready::relist_least;
 use crate::tally::place;
 use crate::turn::{Ahead, Next, PickError};
 use base_jobs::{Job, Post, Step, Task};
@@ -126,42 +126,38 @@ impl<J: Job, A: Allocator + Clone> Core<J, A> {
             (settled_of result.0 next.now.woken) (settle_notes next.now.name result.1 result.0 next.now.woken) self.new) }
         ensures bounded { IsBounded self.new }
     {
-        let _named = next;
         if self.has_bursts() {
             return self.turn_opening(post, meter);
         }
-        self.turn_first(post, meter)
+        self.turn_first(next, post, meter)
     }
 
     /// Polls the next job where it stands, and settles the poll, which ends the turn. The answer: what the poll came to, and the time that counts.
     #[inline(always)]
     fn turn_first<P: Post<J, J::Out>, M: Meter>(
         &mut self,
+        next: &Next,
         post: &mut P,
         meter: &mut M,
     ) -> (Step<J::Out>, u64)
-        requires free { self.old.out ≡ None }
-        requires no_turn { self.old.bursts.open ≡ None }
+        requires ahead { IsAhead self.old next.now.queue next.now.vr next.now.name next.now.started next.now.woken }
         requires single { has_bursts self.old.bursts.burst ≡ false }
-        requires turns { self.old.turns < 2 ^ 64 - 1 }
-        requires work { (queue : ℕ) × (waiting_of queue self.old.queues ≡ [] → ⊥) }
         ensures turns { MakesCalls P.Does post.old post.new (λ calls. (spent : ℕ) × M.Tells meter.old spent meter.new × TurnsFirst J.meaning self.old spent calls result.0 result.1 self.new) }
         ensures bounded { IsBounded self.new }
     {
-        let Some((key, slip)) = self.ready.take_least() else {
-            unreachable!()
-        };
-        let queue = key.queue;
+        // That the keys rise, one of each queue, is known of a timeline whose length was asked for.
+        let _count = self.ready.len();
+        let queue = next.queue;
         let (step, told, spent) = self.queues.turn_front(queue, post, meter);
         let time = told.unwrap_or(spent);
         let shares = self.queues.shares(queue);
         let done = ended(&step);
         let tally = self.tallies[place(queue)].turned(time, &shares, done);
         self.tallies[place(queue)] = tally;
-        self.floor = self.floor.max(key.vr);
+        self.floor = self.floor.max(next.vr);
         self.turns += 1;
         self.inside -= done as usize;
-        relist(&mut self.queues, &mut self.ready, slip, tally.runtime);
+        relist_least(&mut self.queues, &mut self.ready, queue, tally.runtime);
         (step, time)
     }
 }

@@ -3,17 +3,7 @@ use Rattle.core_core.proofs.Turned.{TurnsWhole-first, some_front}
 use Rattle.core_core.proofs.one_core.Core.turn_metered.Goals as goal
 
 pub turn_first-requires : goal.turn_first-requires
-turn_first-requires g c =
-    let is_ahead = c.requires.ahead in
-    let front = is_ahead.front in
-    let next = c.args.next.now in
-    record {
-      free = is_ahead.next.free;
-      no_turn = is_ahead.next.no_turn;
-      single = sym c.has_bursts.ensures ∙ c.if-has_bursts.false;
-      turns = is_ahead.left;
-      work = (next.queue, some_front (waiting_of next.queue c.args.self.now.queues) (next.name, record { started = next.started; woken = next.woken }, front.0) front.1 front.2);
-    }
+turn_first-requires g c = record { ahead = c.requires.ahead; single = sym c.has_bursts.ensures ∙ c.if-has_bursts.false }
 
 pub returns-clause-whole : goal.returns-clause-whole
 returns-clause-whole g c =
