@@ -93,6 +93,7 @@ impl<J: Task<Out = u64>, C: Drop, G: Drop> Rounds<J, C, G> {
 
 impl<J: Job + Task<Out = u64>, C: Clock + Drop, G: Gate + Drop> Rounds<J, C, G> {
     /// Makes one turn, rings for its notes, and sets the timers of the jobs that sleep behind it. Whether there was work.
+    #[inline(always)]
     fn take_turn(&mut self, local: &mut J::Local) -> bool
         requires rung { AreRung self.old.served self.old.bells }
         ensures steps { StepsServed (turn_most self.old.served) self.old.served result self.new.served }
@@ -152,6 +153,7 @@ impl<J: Job + Task<Out = u64>, C: Clock + Drop, G: Gate + Drop> Rounds<J, C, G> 
 
     /// Whether no turn is to be made, no link shows anything and no timer is due, behind a round in which nothing was done. The clock is
     /// read if a job sleeps.
+    #[inline(never)]
     fn has_nothing(&mut self, was_idle: bool) -> bool
         requires rung { AreRung self.old.served self.old.bells }
         ensures peeks { Peeks C.Reads (round_view self.old.served self.old.timers self.old.watch self.old.gate self.old.turns) (round_view self.new.served self.new.timers self.new.watch self.new.gate self.new.turns) }
@@ -172,6 +174,7 @@ impl<J: Job + Task<Out = u64>, C: Clock + Drop, G: Gate + Drop> Rounds<J, C, G> 
 
     /// One round: a turn alone if one is left and there is work, else a look at all links and a turn. Whether anything was done. After a
     /// round in which nothing was done there is something to do only where a link shows it.
+    #[inline(always)]
     pub(crate) fn round(&mut self, was_idle: bool, local: &mut J::Local) -> bool
         requires rung { AreRung self.old.served self.old.bells }
         ensures makes { MakesRound J.meaning J.sleeps C.Reads G.Asked was_idle (round_view self.old.served self.old.timers self.old.watch self.old.gate self.old.turns) result (round_view self.new.served self.new.timers self.new.watch self.new.gate self.new.turns) }
@@ -200,6 +203,7 @@ impl<J: Job + Task<Out = u64>, C: Clock + Drop, G: Gate + Drop> LastLook for Rou
 
     ghost Looks = { λ old some new. LooksAgain J.meaning J.sleeps C.Reads G.Asked old.looks old.bells (round_view old.served old.timers old.watch old.gate old.turns) some new.looks new.bells (round_view new.served new.timers new.watch new.gate new.turns) };
 
+    #[inline(never)]
     fn look_again(&mut self, local: &mut J::Local) -> bool {
         let woke = self.wake_due();
         let sleeps = !self.timers.is_empty();
