@@ -3,6 +3,8 @@ pub mod Sides
 pub mod Remainders
 pub mod Tops
 pub mod Taken
+pub mod Rolls
+pub mod RollEnds
 pub mod Lanes
 pub mod Marks
 pub mod Kept

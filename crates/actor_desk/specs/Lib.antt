@@ -1,6 +1,7 @@
 pub mod Held
 pub mod Nodes
 pub mod Rows
+pub mod Rolls
 pub mod Shelves
 pub mod Kept
 pub mod Lanes

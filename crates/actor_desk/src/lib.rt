@@ -9,6 +9,7 @@ pub mod lane;
 pub mod post;
 pub mod recorded_desk;
 mod row;
+pub mod roll;
 mod rows;
 mod shelf;
 mod trie;
