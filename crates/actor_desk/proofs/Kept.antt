@@ -1,9 +1,10 @@
 -- What is known of marks whose outcomes are kept, and what each change of the marks is to the entries.
-use Rattle.std.proofs.Common.{◌≡◌, ◌≢◌, ◌⊎◌, inl, inr, ℕ, ◌+◌, ◌≤◌, Bool, true, false, List, Option, None, Some, is_some, refl, sym, ap, subst, ◌∙◌, arith}
+use Rattle.std.proofs.Common.{◌≡◌, inl, inr, ℕ, ◌+◌, ◌<◌, ◌≤◌, true, false, List, Option, None, Some, is_some, refl, sym, ap, subst, ◌∙◌, arith}
 use Rattle.std.proofs.lemmas.Bool.Decides.{eqb_tells}
 use Rattle.slab.specs.Slab.{Slab, HasRoomFor, get, slab_len}
 use Rattle.base_words.specs.declared.order.Outcome.{Outcome}
 use Rattle.actor_desk.specs.Held.{one, at, tally, count_of, Adds, Removes, Becomes}
+use Rattle.actor_desk.specs.Rolls.{IsAbove}
 use Rattle.actor_desk.specs.Kept.{has_key, has_any, is_waiting, collected, entry_of, shown, AreKept, IsCollectedAt}
 use Rattle.actor_desk.specs.declared.entry.Entry.{Entry}
 use Rattle.actor_desk.specs.declared.entry.Entry.TheVariants.{Pending, Detached, Collected}
@@ -63,11 +64,13 @@ module _ {J T : Type 0} (kept : Slab (Outcome J T)) (marks : List (ℕ × Mark))
   marked : (n : ℕ) (entry : Entry J T) (found : Option Mark) → at marks n ≡ found → at (shown kept marks) n ≡ Some entry → mapped kept found ≡ Some entry
   marked n entry found is shows = sym (ap (mapped kept) is) ∙ (sym (at-shown kept marks n) ∙ shows)
 
-  pub none-there : (n : ℕ) → at (shown kept marks) n ≡ None → at marks n ≡ None
-  none-there n shows = elim (option_cases (at marks n)) [
-    | inl none ↦ none
-    | inr some ↦ absurd (let e : Some (entry_of kept some.0) ≡ None = sym (ap (mapped kept) some.1) ∙ (sym (at-shown kept marks n) ∙ shows) in cc)
-  ]
+  -- a number above all entries is above all marks
+  pub above-there : (number : ℕ) → IsAbove (shown kept marks) number → IsAbove marks number
+  above-there number above n = by_mark (at marks n) refl
+    where
+      by_mark : (found : Option Mark) → at marks n ≡ found → is_some (at marks n) ≡ true → n < number
+      by_mark None is some = absurd (let e : true ≡ false = sym some ∙ ap is_some is in cc)
+      by_mark (Some mark) is some = above n (ap is_some (at-shown kept marks n) ∙ ap (λ f. is_some (mapped kept f)) is)
 
   pub waits-there : (n : ℕ) → at (shown kept marks) n ≡ Some Pending → at marks n ≡ Some Waits
   waits-there n shows = by_mark (at marks n) refl

@@ -1,5 +1,5 @@
 -- What a lane knows of its numbers, and that a send keeps it.
-use Rattle.std.proofs.Common.{◌≡◌, Bool, ◌≢◌, ◌⊎◌, inl, inr, ℕ, ◌+◌, ◌<◌, ◌≤◌, true, List, [], ◌∷◌, ◌++◌, length, length-append, Option, Some, None, Ok, Err, refl, sym, ap, subst, ◌∙◌, arith}
+use Rattle.std.proofs.Common.{◌≡◌, Bool, ◌≢◌, ◌⊎◌, inl, inr, ℕ, ◌+◌, ◌<◌, ◌≤◌, true, false, is_some, List, [], ◌∷◌, ◌++◌, length, length-append, Option, Some, None, Ok, Err, refl, sym, ap, subst, ◌∙◌, arith}
 use Rattle.std.specs.Prelude.{slice_get, take}
 use Rattle.std.proofs.lemmas.Bool.Decides.{eqb_tells}
 use Rattle.std.proofs.lemmas.List.{take-append-le}
@@ -16,6 +16,7 @@ use Rattle.base_words.proofs.Prefixes.{IsPrefix-self}
 use Rattle.link_ends.proofs.Lists.{slice_get-starts}
 use Rattle.link_ends.proofs.Numbers.{AreOf-starts}
 use Rattle.actor_desk.specs.Held.{at, Adds}
+use Rattle.actor_desk.specs.Rolls.{IsAbove}
 use Rattle.actor_desk.specs.Lanes.{Lane, is_collected, IsSent, IsGot, Stands, IsLaneOf, IsUnused, fresh_lane}
 use Rattle.actor_desk.specs.declared.entry.Entry.{Entry}
 use Rattle.actor_desk.proofs.Taken.{taken-get, take-nothing}
@@ -42,13 +43,13 @@ module _ {J T : Type 0} where
       ((low, omega arith), record { place = stands.1.place; got = stands.1.got; is = stands.1.is })
 
 module _ {J T : Type 0} (fits : Order J → Outcome J T → Type 0) where
-  -- the next number has no entry
-  pub next_absent : (lane : Lane J T) (out : Outward J T) (credited number : ℕ) → IsLaneOf fits lane out credited
-      → number ≡ out.base + length out.sent + 1 → at lane.entries number ≡ None
-  next_absent lane out credited number l next =
-      elim (option_cases (at lane.entries number)) [
-        | inl none ↦ none
-        | inr some ↦ let sent : IsSent out number = Stands-sent out number some.0 (l.standing number some.0 some.1) in let high : number ≤ out.base + length out.sent = sent.1 in absurd (omega arith)
+  -- the next number is above all that have an entry
+  pub next_above : (lane : Lane J T) (out : Outward J T) (credited number : ℕ) → IsLaneOf fits lane out credited
+      → number ≡ out.base + length out.sent + 1 → IsAbove lane.entries number
+  next_above lane out credited number l next n there =
+      elim (option_cases (at lane.entries n)) [
+        | inl none ↦ absurd (let e : true ≡ false = sym there ∙ ap is_some none in cc)
+        | inr some ↦ let sent : IsSent out n = Stands-sent out n some.0 (l.standing n some.0 some.1) in let high : n ≤ out.base + length out.sent = sent.1 in omega arith
       ]
 
   -- a send that is accepted

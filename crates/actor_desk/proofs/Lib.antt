@@ -1,7 +1,3 @@
-pub mod Digits
-pub mod Sides
-pub mod Remainders
-pub mod Tops
 pub mod Taken
 pub mod Rolls
 pub mod RollEnds

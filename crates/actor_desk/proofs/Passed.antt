@@ -1,5 +1,5 @@
 -- What holds of a journal behind a passing.
-use Rattle.std.proofs.Common.{◌≡◌, ℕ, Result, Ok, Err, sym, subst}
+use Rattle.std.proofs.Common.{ℕ, Result, Ok, Err, sym, subst}
 use Rattle.base_words.specs.Journal.{Journal}
 use Rattle.note_journal.specs.Journals.{JournalView, passed_all}
 use Rattle.note_journal.specs.Passing.{PassesOn}

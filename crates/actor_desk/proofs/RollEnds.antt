@@ -1,22 +1,19 @@
 -- What lines hold, where one comes at the end, the last one goes, or those that left are swept.
 use Rattle.std.proofs.Common.{◌≡◌, ◌≢◌, inl, inr, ℕ, zero, suc, ◌+◌, ◌-◌, ◌<◌, ◌≤◌, Bool, true, false, List, [], ◌∷◌, ◌++◌, length, length-append, Option, None, Some, is_some, cond, refl, sym, ap, subst, ◌∙◌, arith}
 use Rattle.std.specs.Prelude.{filter, option_to_list, slice_get}
+use Rattle.std.proofs.lemmas.List.{append-nil}
 use Rattle.std.proofs.lemmas.Option.{slice_get_within}
 use Rattle.link_ends.proofs.Lists.{slice_get-seen, slice_get-with_last, slice_get-behind}
-use Rattle.actor_desk.specs.Held.{one, at, tally, count_of, Adds}
+use Rattle.actor_desk.specs.Held.{at, tally, count_of, Adds}
 use Rattle.actor_desk.specs.Rolls.{IsAbove, held_first, held, IsBelow, IsRising, EndsLeft, IsEnded}
 use Rattle.actor_desk.specs.declared.roll.Line.{Line}
 use Rattle.actor_desk.proofs.Lanes.{option_cases}
-use Rattle.actor_desk.proofs.Rolls.{passing, tally-first, at-first, at-later, at-same, rising-rest, first-below, rising-with, at-held}
+use Rattle.actor_desk.proofs.Rolls.{passing, tally-first, at-later, at-same, rising-rest, first-below, rising-with, at-held}
 
 -- what is put behind a list stands there
 behind : {A : Type 0} (xs : List A) (last : A) → slice_get (xs ++ last ∷ []) (length xs) ≡ Some last
 behind [] last = refl
 behind (x ∷ xs) last = behind xs last
-
-without-nothing : {A : Type 0} (xs : List A) → xs ++ [] ≡ xs
-without-nothing [] = refl
-without-nothing (x ∷ xs) = ap (λ ys. x ∷ ys) (without-nothing xs)
 
 module _ {V : Type 0} where
   -- the numbers of lines that rise lie apart as their places at least
@@ -86,7 +83,7 @@ module _ {V : Type 0} where
 
   -- the last line goes, which left
   pub held-popped : (lines front : List (Line V)) (last : Option (Line V)) → lines ≡ front ++ option_to_list last → EndsLeft lines → IsRising lines → IsRising front × (held front ≡ held lines)
-  held-popped lines front None is ends r = let e : lines ≡ front = is ∙ without-nothing front in (subst IsRising e r, ap held (sym e))
+  held-popped lines front None is ends r = let e : lines ≡ front = is ∙ append-nil front in (subst IsRising e r, ap held (sym e))
   held-popped lines front (Some last) is ends r =
       let count : ends.0 + 1 ≡ length front + 1 = ends.2 ∙ (ap length is ∙ length-append front (last ∷ [])) in
       let place : ends.0 ≡ length front = omega arith in

@@ -1,11 +1,10 @@
 -- What lines hold, where one of them changes, one more comes, the last one goes, or those that left are swept.
-use Rattle.std.proofs.Common.{◌≡◌, ◌≢◌, ◌⊎◌, inl, inr, ℕ, zero, suc, ◌+◌, ◌<◌, ◌≤◌, Bool, true, false, List, [], ◌∷◌, ◌++◌, length, get_or, set, Option, None, Some, is_some, cond, refl, sym, ap, subst, ◌∙◌, arith}
-use Rattle.std.specs.Prelude.{eqb, filter, slice_get}
+use Rattle.std.proofs.Common.{◌≡◌, ◌≢◌, ◌⊎◌, inl, inr, ℕ, zero, suc, ◌+◌, ◌<◌, Bool, List, [], ◌∷◌, set, Option, None, Some, refl, sym, ap, subst, ◌∙◌, arith}
+use Rattle.std.specs.Prelude.{eqb, slice_get}
 use Rattle.std.proofs.lemmas.Bool.{eq-eqb}
 use Rattle.std.proofs.lemmas.Bool.Decides.{eqb_tells}
 use Rattle.std.proofs.lemmas.List.{length-set}
-use Rattle.std.proofs.lemmas.Option.{get_or_from_slice_get}
-use Rattle.actor_desk.specs.Held.{one, pick, at, tally, count_of, Adds, Removes, Becomes}
+use Rattle.actor_desk.specs.Held.{one, pick, at, tally, Removes, Becomes}
 use Rattle.actor_desk.specs.Rolls.{held_first, held, IsHeldAt, IsNowhere, IsRising, IsEnded}
 use Rattle.actor_desk.specs.declared.roll.Line.{Line}
 
@@ -68,10 +67,6 @@ module _ {V : Type 0} where
   pub none-line : (lines : List (Line V)) → IsRising lines → (place : ℕ) (line : Line V) (number : ℕ) → slice_get lines place ≡ Some line → line.number ≡ number → line.value ≡ None → at (held lines) number ≡ None
   none-line lines r place line number is named has = subst (λ n. at (held lines) n ≡ None) named (at-held lines r place line is ∙ has)
 
-  -- a line that is read in a number's place has the number
-  pub same-number : (lines : List (Line V)) (place number : ℕ) (value : V) (line : Line V) → IsHeldAt lines place number value → line ≡ get_or lines place line → line.number ≡ number
-  same-number lines place number value line is read = ap (λ l. l.number) (read ∙ get_or_from_slice_get lines place _ line is)
-
   -- a line in the place of one of the same number
   tally-set : (lines : List (Line V)) (i : ℕ) (line new : Line V) (test : V → Bool) → slice_get lines i ≡ Some line
       → passing line.value test + tally (held (set lines i new)) test ≡ passing new.value test + tally (held lines) test
@@ -133,19 +128,20 @@ module _ {V : Type 0} (lines : List (Line V)) (r : IsRising lines) (i : ℕ) (li
   at-set = subst (λ n. at (held (set lines i new)) n ≡ new.value) same (at-held (set lines i new) rising-set i new (there-set lines i line new is))
 
 -- What becomes of what is held, where the line of a number that is held changes its value.
-module _ {V : Type 0} (lines : List (Line V)) (r : IsRising lines) (place number : ℕ) (before : V) (is : IsHeldAt lines place number before) (same : ℕ) (is_same : same ≡ number) where
-  pub Removes-set : Removes (held lines) (held (set lines place (record { number = same; value = None }))) number before
+module _ {V : Type 0} (lines : List (Line V)) (r : IsRising lines) (place number : ℕ) (before : V) (is : IsHeldAt lines place number before) where
+  pub Removes-set : Removes (held lines) (held (set lines place (record { number = number; value = None }))) number before
   Removes-set = record {
     was = at-held lines r place _ is;
-    gone = at-set lines r place _ (record { number = same; value = None }) is is_same;
-    others = others-set lines place _ (record { number = same; value = None }) is is_same;
-    tallies = λ test. let e : one (test before) + tally (held (set lines place (record { number = same; value = None }))) test ≡ 0 + tally (held lines) test = tally-set lines place _ (record { number = same; value = None }) test is in omega arith;
+    gone = at-set lines r place _ (record { number = number; value = None }) is refl;
+    others = others-set lines place _ (record { number = number; value = None }) is refl;
+    tallies = λ test.
+        let e : one (test before) + tally (held (set lines place (record { number = number; value = None }))) test ≡ 0 + tally (held lines) test = tally-set lines place _ (record { number = number; value = None }) test is in omega arith;
   }
 
-  pub Becomes-set : (value : V) → Becomes (held lines) (held (set lines place (record { number = same; value = Some value }))) number before value
+  pub Becomes-set : (value : V) → Becomes (held lines) (held (set lines place (record { number = number; value = Some value }))) number before value
   Becomes-set value = record {
     was = at-held lines r place _ is;
-    here = at-set lines r place _ (record { number = same; value = Some value }) is is_same;
-    others = others-set lines place _ (record { number = same; value = Some value }) is is_same;
-    tallies = λ test. tally-set lines place _ (record { number = same; value = Some value }) test is;
+    here = at-set lines r place _ (record { number = number; value = Some value }) is refl;
+    others = others-set lines place _ (record { number = number; value = Some value }) is refl;
+    tallies = λ test. tally-set lines place _ (record { number = number; value = Some value }) test is;
   }

@@ -1,6 +1,4 @@
 pub mod Held
-pub mod Nodes
-pub mod Rows
 pub mod Rolls
 pub mod Shelves
 pub mod Kept

@@ -1,5 +1,5 @@
 -- The lines of a roll, in the order of their numbers, and what they hold.
-use Rattle.std.specs.Prelude.{◌≡◌, ◌≢◌, ◌≤◌, ◌<◌, ℕ, ◌+◌, true, List, [], ◌∷◌, length, Option, Some, None, is_some, slice_get}
+use Rattle.std.specs.Prelude.{◌≡◌, ◌≢◌, ◌<◌, ℕ, ◌+◌, true, List, [], ◌∷◌, length, Option, Some, None, is_some, slice_get}
 use Rattle.actor_desk.specs.Held.{at}
 use Rattle.actor_desk.specs.declared.roll.Line.{Line}
 

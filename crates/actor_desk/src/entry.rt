@@ -13,13 +13,13 @@ pub enum Entry<J: Drop, T: Drop> {
     Collected(Outcome<J, T>),
 }
 
-/// What a tree holds for an entry. The outcomes stand in a slab of their own, whose memory isn't touched before the first one comes.
+/// What a roll holds for an entry. The outcomes stand in a slab of their own, whose memory isn't touched before the first one comes.
 #[derive(Clone, Copy)]
 pub(crate) enum Mark {
     Waits,
     LetGo,
-    /// The outcome has this key.
-    Holds(usize),
+    /// The outcome has this key. With 16 bits a line of a roll is 16 bytes, and with 64 it is 32.
+    Holds(u16),
 }
 
 /// What stands at a number, without the outcome.

@@ -8,11 +8,8 @@ pub mod entry;
 pub mod lane;
 pub mod post;
 pub mod recorded_desk;
-mod row;
 pub mod roll;
-mod rows;
 mod shelf;
-mod trie;
 
 pub use post::{LentDesk, RecordedPost};
 pub use recorded_desk::RecordedDesk;

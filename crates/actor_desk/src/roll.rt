@@ -84,7 +84,10 @@ impl<V: Copy> Roll<V> {
         ensures room { self.new.room ≡ self.old.room }
     {
         let (place, value) = find(&self.lines, number)?;
-        self.lines[place].value = None;
+        self.lines[place] = Line {
+            number,
+            value: None,
+        };
         trim(&mut self.lines);
         Some(value)
     }
@@ -98,12 +101,15 @@ impl<V: Copy> Roll<V> {
         ensures room { self.new.room ≡ self.old.room }
     {
         let (place, before) = find(&self.lines, number)?;
-        self.lines[place].value = Some(value);
+        self.lines[place] = Line {
+            number,
+            value: Some(value),
+        };
         Some(before)
     }
 }
 
-/// Where a number stands, and its value.
+/// The line of a number that is held, and its value.
 #[inline(always)]
 fn find<V: Copy>(lines: &[Line<V>], number: u64) -> Option<(usize, V)>
     requires { IsRising lines.now }

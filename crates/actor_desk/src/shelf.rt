@@ -1,72 +1,24 @@
-//! What is known of outstanding submissions, by number, in trees whose nodes are all made at the opening.
+//! What is known of outstanding submissions, by number: their marks in a roll, and their outcomes in a slab of their own.
 
-ghost use Rattle.std.specs.Prelude.{◌≡◌, ◌<◌, [], None, Some, IfOk};
+ghost use Rattle.std.specs.Prelude.{◌≡◌, ◌<◌, [], Some, IfOk};
 ghost use Rattle.actor_desk.specs.Held.{at, count_of, Adds, Removes, Becomes};
 ghost use Rattle.actor_desk.specs.Kept.{IsCollectedAt};
-ghost use Rattle.actor_desk.specs.Nodes.{IsLoose};
+ghost use Rattle.actor_desk.specs.Rolls.{IsAbove};
 ghost use Rattle.actor_desk.specs.Steps.{StandsAs};
 ghost use Rattle.actor_desk.specs.declared.entry.Entry.TheVariants.{Pending, Detached, Collected};
-ghost use Rattle.actor_desk.specs.declared.entry.Mark.TheVariants.{Waits};
 
 use crate::entry::{Mark, Standing};
-use crate::rows::Rows;
-use crate::trie::Node;
+use crate::roll::Roll;
 use base_sealed::SealedSlab;
 use base_words::Outcome;
 use slab::Slab;
 use std::alloc::{AllocError, Global};
 use std::marker::Model;
 
-/// A node that is in no tree. Its mark waits, so that it needn't be written when it is used.
-#[derive(Drop)]
-struct Slip {
-    node: Box<Node<Mark>, Global>,
-}
-
-impl Model for Slip {
-    ghost use Rattle.actor_desk.specs.declared.entry.Mark.{Mark};
-
-    ghost Value = { Mark };
-
-    ghost view = { λ s. s.node.value.value };
-
-    ghost use Rattle.std.specs.Prelude.{◌≡◌};
-    ghost use Rattle.actor_desk.specs.Nodes.{IsLoose};
-    ghost use Rattle.actor_desk.specs.declared.entry.Mark.TheVariants.{Waits};
-
-    ghost invariant = { λ s. IsLoose s.node.value × (s.node.value.value ≡ Waits) };
-}
-
-impl Slip {
-    fn try_new(alloc: Global) -> Result<Self, AllocError> {
-        let node = Box::new(alloc, Node::loose(Mark::Waits))?;
-        Ok(Slip { node })
-    }
-
-    /// The node.
-    fn taken(self) -> Box<Node<Mark>, Global>
-        ensures loose { IsLoose result.value }
-        ensures value { result.value.value ≡ Waits }
-    {
-        let Slip { node } = self;
-        node
-    }
-
-    /// A node that was taken out of a tree.
-    fn freed(node: Box<Node<Mark>, Global>) -> Self
-        requires { IsLoose node.value }
-    {
-        let mut node = node;
-        node.value = Mark::Waits;
-        Slip { node }
-    }
-}
-
 /// Entries by number. It has room for so many. The other calls ask for no memory; no clause says so.
 #[derive(Drop)]
 pub(crate) struct Shelf<J: Drop, T: Drop> {
-    held: Rows<Mark>,
-    free: Vec<Slip, Global>,
+    held: Roll<Mark>,
     kept: SealedSlab<Outcome<J, T>, Global>,
 }
 
@@ -76,14 +28,13 @@ impl<J: Drop, T: Drop> Model for Shelf<J, T> {
 
     ghost Value = { Entries (Entry J T) };
 
-    ghost use Rattle.std.specs.Prelude.{◌+◌, ◌≤◌, length};
-    ghost use Rattle.std.specs.Vec.{vec_capacity};
+    ghost use Rattle.std.specs.Prelude.{◌<◌, ◌≤◌};
     ghost use Rattle.actor_desk.specs.Held.{count_of};
     ghost use Rattle.actor_desk.specs.Kept.{AreKept, shown};
 
-    ghost view = { λ s. record { entries = shown s.kept s.held; room = count_of s.held + length s.free.items } };
+    ghost view = { λ s. record { entries = shown s.kept s.held.entries; room = s.held.room } };
 
-    ghost invariant = { λ s. AreKept s.kept s.held × (count_of s.held + length s.free.items ≤ vec_capacity s.free) × (count_of s.held + length s.free.items ≤ s.kept.capacity) };
+    ghost invariant = { λ s. AreKept s.kept s.held.entries × (count_of s.held.entries ≤ s.kept.capacity) × (s.held.room ≤ s.kept.capacity) × (s.kept.capacity < 65536) };
 }
 
 impl<J: Drop, T: Drop> Shelf<J, T> {
@@ -91,14 +42,13 @@ impl<J: Drop, T: Drop> Shelf<J, T> {
     pub(crate) fn open(alloc: Global, room: u16) -> Result<Self, AllocError>
         ensures { IfOk result (λ shelf. shelf ≡ record { entries = []; room = room }) }
     {
-        let mut free = Vec::with_capacity(alloc, room as usize)?;
-        for _ in 0..room {
-            free.push_reserved(Slip::try_new(alloc)?);
-        }
         let kept = Slab::with_capacity(alloc, room as usize)?;
+        // A key is below the capacity, which is what was asked for. No clause of the slab says so, and a mark has 16 bits for a key.
+        if kept.capacity() > u16::MAX as usize {
+            return Err(AllocError);
+        }
         Ok(Shelf {
-            held: Rows::open(alloc, room)?,
-            free,
+            held: Roll::open(alloc, room)?,
             kept: SealedSlab::sealed(kept),
         })
     }
@@ -116,18 +66,15 @@ impl<J: Drop, T: Drop> Shelf<J, T> {
         }
     }
 
-    /// Adds an entry that waits at a number that has none.
+    /// Adds an entry that waits at a number above all others.
     #[inline(always)]
     pub(crate) fn put(&mut self, number: u64)
-        requires absent { at self.old.entries number ≡ None }
+        requires above { IsAbove self.old.entries number }
         requires room { count_of self.old.entries < self.old.room }
         ensures adds { Adds self.old.entries self.new.entries number Pending }
         ensures room { self.new.room ≡ self.old.room }
     {
-        let Some(slip) = self.free.pop() else {
-            unreachable!()
-        };
-        self.held.add(number, slip.taken());
+        self.held.add(number, Mark::Waits);
     }
 
     /// Keeps the outcome of a number that waits for it.
@@ -138,7 +85,7 @@ impl<J: Drop, T: Drop> Shelf<J, T> {
         ensures room { self.new.room ≡ self.old.room }
     {
         let key = self.kept.insert_reserved(outcome);
-        let Some(_waited) = self.held.swap(number, Mark::Holds(key)) else {
+        let Some(_waited) = self.held.swap(number, Mark::Holds(key as u16)) else {
             unreachable!()
         };
     }
@@ -150,14 +97,13 @@ impl<J: Drop, T: Drop> Shelf<J, T> {
         ensures removes { Removes self.old.entries self.new.entries number (Collected result) }
         ensures room { self.new.room ≡ self.old.room }
     {
-        let Some(node) = self.held.remove(number) else {
+        let Some(mark) = self.held.remove(number) else {
             unreachable!()
         };
-        let Mark::Holds(key) = node.value else {
+        let Mark::Holds(key) = mark else {
             unreachable!()
         };
-        self.free.push_reserved(Slip::freed(node));
-        self.kept.remove(key)
+        self.kept.remove(key as usize)
     }
 
     /// Nobody will ask for the outcome of a number that waits for it.
@@ -179,9 +125,8 @@ impl<J: Drop, T: Drop> Shelf<J, T> {
         ensures removes { Removes self.old.entries self.new.entries number Detached }
         ensures room { self.new.room ≡ self.old.room }
     {
-        let Some(node) = self.held.remove(number) else {
+        let Some(_detached) = self.held.remove(number) else {
             unreachable!()
         };
-        self.free.push_reserved(Slip::freed(node));
     }
 }

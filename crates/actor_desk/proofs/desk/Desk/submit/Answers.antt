@@ -1,4 +1,3 @@
-use Rattle.std.proofs.Common.{rules}
 use Rattle.actor_desk.proofs.desk.Desk.submit.Goals as goal
 
 -- a refused order is told as the end told it

@@ -1,9 +1,10 @@
 use Rattle.std.proofs.Common.{◌+◌, refl, sym, ap, subst, ◌∙◌}
 use Rattle.link_ends.specs.Fits.{Fits}
-use Rattle.actor_desk.specs.Held.{at, Adds}
+use Rattle.actor_desk.specs.Held.{Adds}
+use Rattle.actor_desk.specs.Rolls.{IsAbove}
 use Rattle.actor_desk.specs.Lanes.{IsLaneOf}
 use Rattle.actor_desk.specs.declared.entry.Entry.TheVariants.{Pending}
-use Rattle.actor_desk.proofs.Lanes.{next_absent, IsLaneOf-accepted, IsLaneOf-refused}
+use Rattle.actor_desk.proofs.Lanes.{next_above, IsLaneOf-accepted, IsLaneOf-refused}
 use Rattle.actor_desk.proofs.lane.Lane.submit.Goals as goal
 
 pub returns-in_err-number-clause-lane : goal.returns-in_err-number-clause-lane
@@ -12,10 +13,10 @@ returns-in_err-number-clause-lane g c =
     subst (λ k. IsLaneOf fits c.args.self.now (g.O.OutEnd.out c.send.new.self) k) (sym c.send.ensures.credited)
     (IsLaneOf-refused fits c.args.self.now (g.O.OutEnd.out c.args.end.now) (g.O.OutEnd.out c.send.new.self) (g.O.OutEnd.credited c.args.end.now) c.args.order _ c.requires.lane c.in_err-number.ensures.sends)
 
-pub put-requires-clause-absent : goal.put-requires-clause-absent
-put-requires-clause-absent g c =
-    ap (λ l. at l.entries c.in_ok-number.number) c.self.view_is
-    ∙ next_absent (Fits g.J.Task.meaning) c.args.self.now (g.O.OutEnd.out c.args.end.now) (g.O.OutEnd.credited c.args.end.now) c.in_ok-number.number c.requires.lane c.in_ok-number.ensures.sends.2
+pub put-requires-clause-above : goal.put-requires-clause-above
+put-requires-clause-above g c =
+    subst (λ l. IsAbove l.entries c.in_ok-number.number) (sym c.self.view_is)
+    (next_above (Fits g.J.Task.meaning) c.args.self.now (g.O.OutEnd.out c.args.end.now) (g.O.OutEnd.credited c.args.end.now) c.in_ok-number.number c.requires.lane c.in_ok-number.ensures.sends.2)
 
 pub returns-clause-lane : goal.returns-clause-lane
 returns-clause-lane g c =

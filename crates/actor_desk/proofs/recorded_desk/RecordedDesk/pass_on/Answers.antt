@@ -1,4 +1,3 @@
-use Rattle.std.proofs.Common.{◌≡◌}
 use Rattle.actor_desk.specs.Submissions.{IsWritten}
 use Rattle.actor_desk.specs.Tickets.{KnowsLanes}
 use Rattle.actor_desk.proofs.Passed.{passed_holds}

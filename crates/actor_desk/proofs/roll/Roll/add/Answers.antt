@@ -1,7 +1,6 @@
-use Rattle.std.proofs.Common.{◌≡◌, ◌<◌, Some, refl, sym, ap, subst, ◌∙◌, arith}
-use Rattle.std.specs.Vec.{vec_capacity}
+use Rattle.std.proofs.Common.{◌<◌, Some, refl, sym, ap, subst, ◌∙◌, arith}
 use Rattle.actor_desk.specs.Held.{count_of, Adds}
-use Rattle.actor_desk.specs.Rolls.{held, IsAbove, IsBelow, IsRising, IsEnded}
+use Rattle.actor_desk.specs.Rolls.{held, IsAbove, IsRising, IsEnded}
 use Rattle.actor_desk.specs.declared.roll.Line.{Line}
 use Rattle.actor_desk.proofs.RollEnds.{all-below, rising-push, ended-push, Adds-push}
 use Rattle.actor_desk.proofs.roll.Roll.add.Goals as goal

@@ -1,16 +1,15 @@
-use Rattle.std.proofs.Common.{Some, set, sym, ap, subst, ◌∙◌}
+use Rattle.std.proofs.Common.{Some, refl, set, subst}
 use Rattle.actor_desk.specs.Held.{Becomes}
 use Rattle.actor_desk.specs.Rolls.{held, IsHeldAt}
-use Rattle.actor_desk.proofs.Rolls.{same-number, rising-set, ended-set, Becomes-set}
+use Rattle.actor_desk.proofs.Rolls.{rising-set, ended-set, Becomes-set}
 use Rattle.actor_desk.proofs.roll.Roll.swap.Goals as goal
 
 pub invariant_of-self : goal.invariant_of-self
 invariant_of-self g c =
     let i = c.self.inside in
-    let is = subst (λ lines. IsHeldAt lines c.in_ok-place.place c.args.number c.in_ok-place.before) c.deref.ensures.value c.in_ok-place.ensures.found in
-    let same = same-number i.lines.items c.in_ok-place.place c.args.number c.in_ok-place.before c.index_mut.result.now is c.index_mut.ensures.value in (
-      rising-set i.lines.items c.self.invariant.0 c.in_ok-place.place _ (record { number = c.index_mut.result.now.number; value = Some c.args.value }) is same,
-      ended-set i.lines.items c.in_ok-place.place c.index_mut.result.now.number c.args.value c.self.invariant.1,
+    let is = subst (λ lines. IsHeldAt lines c.in_ok-place.place c.args.number c.in_ok-place.before) c.deref.ensures.value c.in_ok-place.ensures.found in (
+      rising-set i.lines.items c.self.invariant.0 c.in_ok-place.place _ (record { number = c.args.number; value = Some c.args.value }) is refl,
+      ended-set i.lines.items c.in_ok-place.place c.args.number c.args.value c.self.invariant.1,
       c.self.invariant.2,
     )
 
@@ -18,6 +17,5 @@ pub returns-clause-becomes : goal.returns-clause-becomes
 returns-clause-becomes g c =
     let i = c.self.inside in
     let is = subst (λ lines. IsHeldAt lines c.in_ok-place.place c.args.number c.in_ok-place.before) c.deref.ensures.value c.in_ok-place.ensures.found in
-    let same = same-number i.lines.items c.in_ok-place.place c.args.number c.in_ok-place.before c.index_mut.result.now is c.index_mut.ensures.value in
-    subst (λ e. Becomes e.entries (held (set i.lines.items c.in_ok-place.place (record { number = c.index_mut.result.now.number; value = Some c.args.value }))) c.args.number c.in_ok-place.before c.args.value) c.self.view_is
-    (Becomes-set i.lines.items c.self.invariant.0 c.in_ok-place.place c.args.number c.in_ok-place.before is c.index_mut.result.now.number same c.args.value)
+    subst (λ e. Becomes e.entries (held (set i.lines.items c.in_ok-place.place (record { number = c.args.number; value = Some c.args.value }))) c.args.number c.in_ok-place.before c.args.value) c.self.view_is
+    (Becomes-set i.lines.items c.self.invariant.0 c.in_ok-place.place c.args.number c.in_ok-place.before is c.args.value)

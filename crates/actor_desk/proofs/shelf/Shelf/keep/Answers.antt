@@ -1,4 +1,4 @@
-use Rattle.std.proofs.Common.{◌≡◌, ◌+◌, ◌≤◌, length, ap, subst, true, ◌∙◌, arith}
+use Rattle.std.proofs.Common.{◌≡◌, ◌+◌, ap, subst, true, ◌∙◌, arith}
 use Rattle.actor_desk.specs.Held.{at, count_of, Becomes}
 use Rattle.actor_desk.specs.Kept.{shown}
 use Rattle.actor_desk.specs.declared.entry.Entry.TheVariants.{Pending, Collected}
@@ -10,33 +10,32 @@ use Rattle.actor_desk.proofs.shelf.Shelf.keep.Goals as goal
 pub insert_reserved-key-requires : goal.insert_reserved-key-requires
 insert_reserved-key-requires g c =
     let i = c.self.inside in
-    let there = waits-there i.kept i.held c.self.invariant.0 c.args.number (ap (λ s. at s.entries c.args.number) c.self.view_is ∙ c.requires.waits) in
-    let fits : count_of i.held + length i.free.items ≤ i.kept.capacity = c.self.invariant.2 in
-    room-kept i.kept i.held c.self.invariant.0 c.args.number there (omega arith)
+    let there = waits-there i.kept i.held.entries c.self.invariant.0 c.args.number (ap (λ s. at s.entries c.args.number) c.self.view_is ∙ c.requires.waits) in
+    room-kept i.kept i.held.entries c.self.invariant.0 c.args.number there c.self.invariant.1
 
 pub returns-clause-becomes : goal.returns-clause-becomes
 returns-clause-becomes g c =
     let i = c.self.inside in
-    let there = waits-there i.kept i.held c.self.invariant.0 c.args.number (ap (λ s. at s.entries c.args.number) c.self.view_is ∙ c.requires.waits) in
-    subst (λ s. Becomes s.entries (shown c.insert_reserved-key.new.self c.swap.new.self) c.args.number Pending (Collected c.args.outcome)) c.self.view_is
-    (Becomes-kept i.kept c.insert_reserved-key.new.self i.held c.swap.new.self c.args.number c.insert_reserved-key.result c.args.outcome c.self.invariant.0
-    c.insert_reserved-key.ensures.was_vacant c.insert_reserved-key.ensures.updates (became i.held c.swap.new.self c.args.number _ Waits there _ c.in-Some.ensures.becomes))
+    let there = waits-there i.kept i.held.entries c.self.invariant.0 c.args.number (ap (λ s. at s.entries c.args.number) c.self.view_is ∙ c.requires.waits) in
+    subst (λ s. Becomes s.entries (shown c.insert_reserved-key.new.self c.swap.new.self.entries) c.args.number Pending (Collected c.args.outcome)) c.self.view_is
+    (Becomes-kept i.kept c.insert_reserved-key.new.self i.held.entries c.swap.new.self.entries c.args.number c.insert_reserved-key.result c.args.outcome c.self.invariant.0
+    c.insert_reserved-key.ensures.was_vacant c.insert_reserved-key.ensures.updates (became i.held.entries c.swap.new.self.entries c.args.number _ Waits there _ c.in-Some.ensures.becomes))
 
 pub invariant_of-self : goal.invariant_of-self
 invariant_of-self g c =
     let i = c.self.inside in
-    let there = waits-there i.kept i.held c.self.invariant.0 c.args.number (ap (λ s. at s.entries c.args.number) c.self.view_is ∙ c.requires.waits) in
-    let becomes = became i.held c.swap.new.self c.args.number _ Waits there (Holds c.insert_reserved-key.result) c.in-Some.ensures.becomes in
-    let same : 1 + count_of c.swap.new.self ≡ 1 + count_of i.held = becomes.tallies (λ mark. true) in
-    let room : count_of i.held + length i.free.items ≤ i.kept.capacity = c.self.invariant.2 in (
-      AreKept-kept i.kept c.insert_reserved-key.new.self i.held c.swap.new.self c.args.number c.insert_reserved-key.result c.args.outcome c.self.invariant.0
+    let there = waits-there i.kept i.held.entries c.self.invariant.0 c.args.number (ap (λ s. at s.entries c.args.number) c.self.view_is ∙ c.requires.waits) in
+    let becomes = became i.held.entries c.swap.new.self.entries c.args.number _ Waits there (Holds c.insert_reserved-key.result) c.in-Some.ensures.becomes in
+    let same : 1 + count_of c.swap.new.self.entries ≡ 1 + count_of i.held.entries = becomes.tallies (λ mark. true) in (
+      AreKept-kept i.kept c.insert_reserved-key.new.self i.held.entries c.swap.new.self.entries c.args.number c.insert_reserved-key.result c.args.outcome c.self.invariant.0
           c.insert_reserved-key.ensures.was_vacant c.insert_reserved-key.ensures.updates becomes c.insert_reserved-key.ensures.len,
-      omega (arith, c.self.invariant.1),
-      omega (arith, c.insert_reserved-key.ensures.capacity),
+      omega (arith, c.self.invariant.1, c.insert_reserved-key.ensures.capacity),
+      omega (arith, c.swap.ensures.room, c.self.invariant.2, c.insert_reserved-key.ensures.capacity),
+      omega (arith, c.self.invariant.3, c.insert_reserved-key.ensures.capacity),
     )
 
 pub unreachable-requires : goal.unreachable-requires
 unreachable-requires g c =
     let i = c.self.inside in
-    let there = waits-there i.kept i.held c.self.invariant.0 c.args.number (ap (λ s. at s.entries c.args.number) c.self.view_is ∙ c.requires.waits) in
+    let there = waits-there i.kept i.held.entries c.self.invariant.0 c.args.number (ap (λ s. at s.entries c.args.number) c.self.view_is ∙ c.requires.waits) in
     not_both _ _ there c.in_default.ensures.none
