@@ -77,6 +77,9 @@ pub(crate) fn nobody_hears(timers: &Timers<Global>, notes: &[Note<u64>]) -> bool
     if !timers.is_empty() {
         return false;
     }
+    if notes.len() == 3 {
+        return is_silent(&notes[0]) && is_silent(&notes[1]) && is_silent(&notes[2]);
+    }
     for note in notes {
         if !is_silent(note) {
             return false;

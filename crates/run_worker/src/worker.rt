@@ -47,6 +47,14 @@ fn count_idle(tries: u32, some: bool, idle: u32) -> (bool, u32)
     if some {
         return (true, 0);
     }
+    count_on(tries, idle)
+}
+
+/// The same where nothing was done. It stands apart, so that a round in which something was done stays short.
+#[inline(never)]
+fn count_on(tries: u32, idle: u32) -> (bool, u32)
+    ensures { CountsIdle tries false idle result.0 result.1 }
+{
     if idle < tries {
         return (true, idle + 1);
     }
