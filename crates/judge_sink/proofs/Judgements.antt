@@ -7,10 +7,12 @@ use Rattle.base_words.specs.Lawful.{MayStand}
 use Rattle.base_words.specs.declared.note.Note.{Note}
 use Rattle.base_words.specs.declared.note.Note.TheVariants.{Answered}
 use Rattle.judge_sink.specs.declared.links.Links.{Links}
+use Rattle.judge_sink.specs.declared.table.Table.{Table}
 use Rattle.judge_sink.specs.Links.{KnowsLinks}
-use Rattle.judge_sink.specs.Judged.{IsAllowed, is_half, without_awaited}
+use Rattle.judge_sink.specs.Judged.{IsAllowed, without_awaited}
 use Rattle.judge_sink.specs.Judging.{IsAlong, IsJudge, IsRead, MayWait, Steps, with_next}
-use Rattle.judge_sink.specs.Replayed.{IsReplayed, OpensFirst, is_replayed, replayed}
+use Rattle.judge_sink.specs.Replayed.{IsReplayed, OpensFirst, is_half, is_replayed, replayed}
+use Rattle.judge_sink.specs.Tables.{FollowsSent, KnowsTable}
 use Rattle.judge_sink.specs.Twins.{TwinView}
 
 -- an answer that waits is no part of what was judged
@@ -25,14 +27,14 @@ awaited_left None (note ∷ before) P may each = each
 awaited_left (Some (Answered name answer)) read P may each = subst (λ effect. EachNote P (if effect then read else Answered name answer ∷ read)) (sym may) each
 awaited_left (Some note) read P may each = absurd may
 
-module _ (old new : TwinView) (waited waits : Option (Note ℕ)) (links more : Links) (left half : Bool) (has : Journal ℕ) (note : Note ℕ) where
+module _ (old new : TwinView) (waited waits : Option (Note ℕ)) (links more : Links) (table kept : Table) (left half : Bool) (has : Journal ℕ) (note : Note ℕ) where
   -- what was read, and whether a note was left out, behind one more note
   pub record IsFurther : Type 0 where
     pub again : replayed old.terms.actor (note ∷ has) ≡ with_next waits new.read
     pub is_read : IsRead new waits
     pub whole : (left || not (is_replayed old.terms.actor note)) ≡ false → replayed old.terms.actor (note ∷ has) ≡ note ∷ has
 
-  further : IsAlong old waited links left half has → Steps old.terms.actor half note old waited new waits → IsFurther
+  further : IsAlong old waited links table left half has → Steps old.terms.actor half note old waited new waits → IsFurther
   further along steps = by_case (is_replayed old.terms.actor note) refl
     where
       by_case : (test : Bool) → is_replayed old.terms.actor note ≡ test → IsFurther
@@ -61,11 +63,11 @@ module _ (old new : TwinView) (waited waits : Option (Note ℕ)) (links more : L
           some false other is = ap not is
 
   -- a judge that goes on is one with all notes
-  pub judges_more : (goes_on : Bool) → IsJudge old waited links left half has goes_on → goes_on ≡ true → IsAllowed links.core links.cores note has → OpensFirst links.core note has →
+  pub judges_more : (goes_on : Bool) → IsJudge old waited links table left half has goes_on → goes_on ≡ true → IsAllowed links.core links.cores note has → FollowsSent old.terms note has × KnowsTable old.terms kept (note ∷ has) → OpensFirst links.core note has →
       Steps links.core half note old waited new waits → new.terms ≡ old.terms → more.core ≡ links.core → more.cores ≡ links.cores → KnowsLinks more (note ∷ has) →
-      IsJudge new waits more (left || not (is_replayed links.core note)) (is_half note) (note ∷ has) goes_on
-  judges_more goes_on is going allowed opens steps terms core_same cores_same knows =
-      let along : IsAlong old waited links left half has = is.along going in
+      IsJudge new waits more kept (left || not (is_replayed links.core note)) (is_half note) (note ∷ has) goes_on
+  judges_more goes_on is going gates follows opens steps terms core_same cores_same knows =
+      let along : IsAlong old waited links table left half has = is.along going in
       let step : Steps old.terms.actor half note old waited new waits = subst (λ core. Steps core half note old waited new waits) (sym is.core_is) steps in
       let far : IsFurther = further along step in
       let actor : new.terms.actor ≡ old.terms.actor = ap (λ terms. terms.actor) terms in
@@ -78,6 +80,7 @@ module _ (old new : TwinView) (waited waits : Option (Note ℕ)) (links more : L
           again = ap (λ core. replayed core (note ∷ has)) actor ∙ far.again;
           is_read = far.is_read;
           known = knows;
+          sent = subst (λ terms. KnowsTable terms kept (note ∷ has)) (sym terms) follows.1;
           whole = λ none. ap (λ core. replayed core (note ∷ has)) actor ∙ far.whole (ap (λ core. left || not (is_replayed core note)) is.core_is ∙ none);
           step = refl;
         };
@@ -85,13 +88,14 @@ module _ (old new : TwinView) (waited waits : Option (Note ℕ)) (links more : L
           core_in = is.right.core_in;
           lawful = subst (λ terms. EachNote (MayStand terms) (without_awaited (replayed old.terms.actor (note ∷ has)))) terms lawful;
           left = (λ unread. sym along.step ∙ (step.left unread).0, is.right.left);
-          links = (record { allowed = subst (λ core. IsAllowed core old.terms.cores note has) (sym is.core_is) (subst (λ cores. IsAllowed links.core cores note has) (sym is.cores_are) allowed) }, is.right.links);
+          links = (record { allowed = subst (λ core. IsAllowed core old.terms.cores note has) (sym is.core_is) (subst (λ cores. IsAllowed links.core cores note has) (sym is.cores_are) gates) }, is.right.links);
+          sent = (follows.0, is.right.sent);
           opening = (subst (λ core. OpensFirst core note has) (sym is.core_is) opens, is.right.opening);
         });
       }
 
   -- one that found a note wrong is along with none
-  pub judges_no_more : (goes_on : Bool) → IsJudge old waited links left half has goes_on → new.terms ≡ old.terms → IsJudge new waits links left half has false
+  pub judges_no_more : (goes_on : Bool) → IsJudge old waited links table left half has goes_on → new.terms ≡ old.terms → IsJudge new waits links kept left half has false
   judges_no_more goes_on is terms = record {
     core_is = ap (λ terms. terms.actor) terms ∙ is.core_is;
     cores_are = ap (λ terms. terms.cores) terms ∙ is.cores_are;

@@ -1,9 +1,10 @@
 pub mod Oldest
 pub mod LinkSteps
 pub mod Seen
-pub mod Owned
+pub mod Facts
+pub mod LaneSteps
+pub mod TableSteps
 pub mod Standing
 pub mod Whole
 pub mod Judgements
-pub mod Own
 pub mod Refused

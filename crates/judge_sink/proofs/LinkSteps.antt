@@ -50,10 +50,10 @@ module _ (old new : Links) (before : Journal ℕ) (knows : KnowsLinks old before
     knows_answered answer = subst (λ links. KnowsLinks links (Answered name answer ∷ before)) (sym is) (record { closed = knows.closed; sent = knows.sent; delivered = delivered; counts = knows.counts })
 
   -- an order was sent
-  pub knows_sent : name.to < length old.sent → new ≡ record old { sent = set old.sent name.to (counted (get_or old.sent name.to 0 + 1)) } → (order : Order (Unit {0})) → KnowsLinks new (Sent name order ∷ before)
-  knows_sent within is order = subst (λ links. KnowsLinks links (Sent name order ∷ before)) (sym is) (record {
+  pub knows_sent : new ≡ record old { sent = counted (old.sent + number_if (name.to == old.core)) } → (order : Order (Unit {0})) → KnowsLinks new (Sent name order ∷ before)
+  knows_sent is order = subst (λ links. KnowsLinks links (Sent name order ∷ before)) (sym is) (record {
     closed = knows.closed;
-    sent = one_longer (λ to. accepted_orders to before) (name, order) name.to old.sent within knows.sent;
+    sent = one_more (accepted_orders old.core before) (name, order) (name.to == old.core) old.sent knows.sent;
     delivered = knows.delivered;
     counts = knows.counts;
   })

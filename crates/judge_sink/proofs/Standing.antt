@@ -1,6 +1,6 @@
 -- A note that may stand behind what is replayed may stand behind all notes.
-use Rattle.std.proofs.Common.{◌≡◌, ℕ, ◌+◌, ◌-◌, ◌^◌, ◌<◌, ◌≤◌, ◌==◌, ◌⊎◌, inl, inr, true, false, not, ◌&&◌, ◌||◌, if◌then◌else◌, min, nat_lt, Option, None, Some, [], ◌∷◌, length, refl, sym, ap, ◌∙◌, subst}
-use Rattle.std.proofs.lemmas.Bool.{eqb-true, not-false, not-true, true≢false}
+use Rattle.std.proofs.Common.{◌≡◌, ℕ, ◌+◌, ◌-◌, ◌^◌, ◌<◌, ◌≤◌, ◌⊎◌, inl, inr, true, false, not, ◌&&◌, ◌||◌, if◌then◌else◌, min, nat_lt, Option, None, Some, [], ◌∷◌, length, refl, sym, ap, ◌∙◌, subst}
+use Rattle.std.proofs.lemmas.Bool.{true≢false}
 use Rattle.std.specs.Prelude.{is_some, nat_le, IsTrue}
 use Rattle.base_words.specs.Bursts.{has_bursts, queue_in_turn, queue_just_picked}
 use Rattle.base_words.specs.Closing.{IsCounted, closes, final_count}
@@ -13,20 +13,17 @@ use Rattle.base_words.specs.declared.order.Answer.TheVariants as answers
 use Rattle.base_words.specs.declared.order.Order.{Order}
 use Rattle.base_words.specs.declared.order.Order.TheVariants.{Job, Create, SetShares, Close, CloseCore, Wake}
 use Rattle.base_words.specs.declared.order.Reason.TheVariants as why
-use Rattle.base_words.specs.Assembly.{first_under}
-use Rattle.base_words.specs.Filters.{accepted_orders, collected_outcomes}
-use Rattle.base_words.specs.Journal.{Journal, is_told, or_else}
+use Rattle.base_words.specs.Journal.{Journal, or_else}
 use Rattle.base_words.specs.Keys.{KeyAtMost}
 use Rattle.base_words.specs.Lawful.{GoesOn, IsNextDelivered, IsTurnOf, MayFollow, MayStand, may_go_on, takes_turn}
 use Rattle.base_words.specs.Limits.{most_turns}
-use Rattle.base_words.specs.Outstanding.{is_gone, name_collected, outstanding_count}
 use Rattle.base_words.specs.Picks.{IsEligible, IsRightPick}
 use Rattle.base_words.specs.Terms.{Terms}
 use Rattle.base_words.specs.Work.{has_work}
-use Rattle.judge_sink.proofs.Owned.{as_many_out, owned}
 use Rattle.judge_sink.proofs.Seen.{Seen, seen}
 use Rattle.judge_sink.specs.Judged.{IsAllowed}
 use Rattle.judge_sink.specs.Replayed.{is_replayed}
+use Rattle.judge_sink.specs.Tables.{FollowsSent}
 
 -- a queue is created at the opening if no other note stands before
 abbrev pub OpensOver : Note ℕ → Journal ℕ → Journal ℕ → Type 0
@@ -120,28 +117,7 @@ module _ (a b : Journal ℕ) (alike : seen a ≡ seen b) (picked : queue_just_pi
   effect_due (Some answer) (Woken name) is opens it = it
   effect_due (Some answer) note is opens it = it
 
-  module _ (terms : Terms) (own : owned terms.actor a ≡ owned terms.actor b) where
-    itself : (to : ℕ) → not (not (to == terms.actor)) ≡ true → to ≡ terms.actor
-    itself to mine = eqb-true to terms.actor (not-false (to == terms.actor) (not-true (not (to == terms.actor)) mine))
-
-    sent : (to : ℕ) → to ≡ terms.actor → accepted_orders to a ≡ accepted_orders to b
-    sent to is = ap (λ core. accepted_orders core a) is ∙ (λ i. (own i).sent) ∙ sym (ap (λ core. accepted_orders core b) is)
-
-    collected : (to : ℕ) → to ≡ terms.actor → collected_outcomes to a ≡ collected_outcomes to b
-    collected to is = ap (λ core. collected_outcomes core a) is ∙ (λ i. (own i).collected) ∙ sym (ap (λ core. collected_outcomes core b) is)
-
-    out : (to : ℕ) → to ≡ terms.actor → outstanding_count to a ≡ outstanding_count to b
-    out to is = ap (λ core. outstanding_count core a) is ∙ as_many_out terms.actor a b own ∙ sym (ap (λ core. outstanding_count core b) is)
-
-    abbrev at : JobId → ℕ → JobId
-    at name to = record name { to = to }
-
-    got : (name : JobId) → name.to ≡ terms.actor → is_told name_collected name a ≡ is_told name_collected name b
-    got name is = ap (λ to. is_told name_collected (at name to) a) is ∙ (λ i. (own i).got name.from name.number) ∙ sym (ap (λ to. is_told name_collected (at name to) b) is)
-
-    gone : (name : JobId) → name.to ≡ terms.actor → is_gone name a ≡ is_gone name b
-    gone name is = ap (λ to. is_gone (at name to) a) is ∙ (λ i. (own i).redeemed name.from name.number || (own i).detached name.from name.number) ∙ sym (ap (λ to. is_gone (at name to) b) is)
-
+  module _ (terms : Terms) where
     delivered : (name : JobId) → IsCounted (final_count name.from b) name.number → IsNextDelivered terms name a → IsNextDelivered terms name b
     delivered name gate next = record {
       sender = next.sender;
@@ -151,61 +127,42 @@ module _ (a b : Journal ℕ) (alike : seen a ≡ seen b) (picked : queue_just_pi
       gate = gate;
     }
 
-    follows : (note : Note ℕ) → is_replayed terms.actor note ≡ true → IsAllowed terms.actor terms.cores note b → MayFollow terms note a → MayFollow terms note b
-    follows (Sent name order) mine links may = record {
-      sender = may.sender;
-      receiver = may.receiver;
-      next = may.next ∙ ap (λ orders. length orders + 1) (sent name.to (itself name.to mine));
-      in_range = may.in_range;
-      credit = subst (λ count. count < terms.cap) (out name.to (itself name.to mine)) may.credit;
-      spelled = may.spelled;
-    }
-    follows (Took name queue) mine links may = (delivered name links may.0, sym (refused queue) ∙ may.1)
-    follows (Back name reason_told) mine links may = (delivered name links may.0, (may.1.0, sym (refused may.1.0) ∙ may.1.1))
-    follows (Answered name answer) mine links may = (delivered name links may.0, (may.1.0, answers_it name.to may.1.0 answer may.1.1))
-    follows (Created queue weight) mine links may = record { next = subst (λ (seen : Seen). queue ≡ seen.created + 1) alike may.next; in_range = may.in_range; shares = may.shares }
-    follows (SharesSet queue weight) mine links may = (subst (λ (seen : Seen). queue ≤ seen.created) alike may.0, may.1)
-    follows (QueueClosed queue mode) mine links may =
+    follows : (note : Note ℕ) → is_replayed terms.actor note ≡ true → IsAllowed terms.actor terms.cores note b → FollowsSent terms note b → MayFollow terms note a → MayFollow terms note b
+    follows (Sent name order) mine gates sent may = sent
+    follows (Took name queue) mine gates sent may = (delivered name gates may.0, sym (refused queue) ∙ may.1)
+    follows (Back name reason_told) mine gates sent may = (delivered name gates may.0, (may.1.0, sym (refused may.1.0) ∙ may.1.1))
+    follows (Answered name answer) mine gates sent may = (delivered name gates may.0, (may.1.0, answers_it name.to may.1.0 answer may.1.1))
+    follows (Created queue weight) mine gates sent may = record { next = subst (λ (seen : Seen). queue ≡ seen.created + 1) alike may.next; in_range = may.in_range; shares = may.shares }
+    follows (SharesSet queue weight) mine gates sent may = (subst (λ (seen : Seen). queue ≤ seen.created) alike may.0, may.1)
+    follows (QueueClosed queue mode) mine gates sent may =
         (subst (λ (seen : Seen). queue ≤ seen.created) alike may.0, subst (λ (seen : Seen). IsTrue (closes (seen.modes queue) mode)) alike may.1)
-    follows (CoreClosed mode) mine links may = subst (λ (seen : Seen). IsTrue (closes seen.mode mode)) alike may
-    follows (Woken name) mine links may = sym (inside name) ∙ may
-    follows (Pick queue runtime) mine links may = record { right = right_pick terms.burst queue runtime may.right; turn_left = subst (λ (seen : Seen). seen.turns < most_turns) alike may.turn_left }
-    follows (Start name) mine links may =
+    follows (CoreClosed mode) mine gates sent may = subst (λ (seen : Seen). IsTrue (closes seen.mode mode)) alike may
+    follows (Woken name) mine gates sent may = sym (inside name) ∙ may
+    follows (Pick queue runtime) mine gates sent may = record { right = right_pick terms.burst queue runtime may.right; turn_left = subst (λ (seen : Seen). seen.turns < most_turns) alike may.turn_left }
+    follows (Start name) mine gates sent may =
         (may.0, turn_of terms.burst name may.0 may.1, sym (reason may.0) ∙ may.2, subst (λ (seen : Seen). seen.started name ≡ false) alike may.3)
-    follows (Resume name) mine links may =
+    follows (Resume name) mine gates sent may =
         (may.0, turn_of terms.burst name may.0 may.1, sym (reason may.0) ∙ may.2, subst (λ (seen : Seen). seen.started name ≡ true) alike may.3)
-    follows (Returned name reason_told) mine links may = (may.0, turn_of terms.burst name may.0 may.1, sym (reason may.0) ∙ may.2)
-    follows (Yield name time) mine links may = subst (λ (seen : Seen). seen.out ≡ name ∷ []) alike may
-    follows (Park name time) mine links may = (subst (λ (seen : Seen). seen.out ≡ name ∷ []) alike may.0, sym (staying name) ∙ may.1)
-    follows (Stayed name time) mine links may = (subst (λ (seen : Seen). seen.out ≡ name ∷ []) alike may.0, sym (staying name) ∙ may.1)
-    follows (Done name time value) mine links may = subst (λ (seen : Seen). seen.out ≡ name ∷ []) alike may
-    follows (Turned queue time) mine links may = record {
+    follows (Returned name reason_told) mine gates sent may = (may.0, turn_of terms.burst name may.0 may.1, sym (reason may.0) ∙ may.2)
+    follows (Yield name time) mine gates sent may = subst (λ (seen : Seen). seen.out ≡ name ∷ []) alike may
+    follows (Park name time) mine gates sent may = (subst (λ (seen : Seen). seen.out ≡ name ∷ []) alike may.0, sym (staying name) ∙ may.1)
+    follows (Stayed name time) mine gates sent may = (subst (λ (seen : Seen). seen.out ≡ name ∷ []) alike may.0, sym (staying name) ∙ may.1)
+    follows (Done name time value) mine gates sent may = subst (λ (seen : Seen). seen.out ≡ name ∷ []) alike may
+    follows (Turned queue time) mine gates sent may = record {
       in_turn = sym (in_turn terms.burst) ∙ may.in_turn;
       nobody_out = subst (λ (seen : Seen). seen.out ≡ []) alike may.nobody_out;
       its_time = subst (λ (seen : Seen). time ≡ min seen.time (2 ^ 40 - 1)) alike may.its_time;
       over = sym (going_on terms.burst queue) ∙ may.over;
     }
-    follows (Collected name outcome) mine links may = record {
-      order = may.order;
-      accepted = sym (ap (first_under name) (sent name.to (itself name.to mine))) ∙ may.accepted;
-      fits = may.fits;
-      new = sym (got name (itself name.to mine)) ∙ may.new;
-    }
-    follows (Redeemed name outcome) mine links may = record {
-      collected = sym (ap (first_under name) (collected name.to (itself name.to mine))) ∙ may.collected;
-      kept = sym (gone name (itself name.to mine)) ∙ may.kept;
-    }
-    follows (Detached name) mine links may = record {
-      order = may.order;
-      accepted = sym (ap (first_under name) (sent name.to (itself name.to mine))) ∙ may.accepted;
-      kept = sym (gone name (itself name.to mine)) ∙ may.kept;
-    }
-    follows (Shut sender count) mine links may = absurd (true≢false (sym mine))
+    follows (Collected name outcome) mine gates sent may = sent
+    follows (Redeemed name outcome) mine gates sent may = sent
+    follows (Detached name) mine gates sent may = sent
+    follows (Shut sender count) mine gates sent may = absurd (true≢false (sym mine))
 
-    pub stands : (note : Note ℕ) → effect_awaited a ≡ effect_awaited b → is_replayed terms.actor note ≡ true → IsAllowed terms.actor terms.cores note b → OpensOver note a b →
+    pub stands : (note : Note ℕ) → effect_awaited a ≡ effect_awaited b → is_replayed terms.actor note ≡ true → IsAllowed terms.actor terms.cores note b → FollowsSent terms note b → OpensOver note a b →
         MayStand terms note a → MayStand terms note b
-    stands note awaited mine links opens may = record {
-      may_follow = follows note mine links may.may_follow;
+    stands note awaited mine gates sent opens may = record {
+      may_follow = follows note mine gates sent may.may_follow;
       turn = sym (ap is_some picked) ∙ may.turn ∙ taking terms.burst note;
       effect = effect_due (effect_awaited b) note refl opens (subst (λ awaited. IsEffectDue awaited note a) awaited may.effect);
       writer = may.writer;

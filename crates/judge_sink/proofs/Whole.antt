@@ -1,19 +1,20 @@
 -- What is replayed of a journal tells which of all its notes may stand where they stand.
-use Rattle.std.proofs.Common.{◌≡◌, ℕ, ◌<◌, Bool, true, false, not, if◌then◌else◌, None, Some, [], ◌∷◌, refl, sym, ap, ◌∙◌, subst}
-use Rattle.std.proofs.lemmas.Bool.{and_right, true≢false}
+use Rattle.std.proofs.Common.{◌≡◌, ℕ, ◌<◌, Bool, true, false, if◌then◌else◌, None, Some, [], ◌∷◌, refl, sym, ap, ◌∙◌, subst}
+use Rattle.std.proofs.lemmas.Bool.{true≢false}
 use Rattle.std.specs.Prelude.{is_some}
 use Rattle.base_words.specs.Bursts.{queue_just_picked}
 use Rattle.base_words.specs.Commands.{IsOpening, effect_awaited, has_effect}
 use Rattle.base_words.specs.declared.note.Note.{Note}
-use Rattle.base_words.specs.declared.note.Note.TheVariants.{Answered, Created, Pick, Shut}
+use Rattle.base_words.specs.declared.note.Note.TheVariants.{Sent, Answered, Created, Pick, Shut, Collected, Redeemed, Detached}
 use Rattle.base_words.specs.Journal.{EachNote, Journal}
 use Rattle.base_words.specs.Lawful.{MayStand}
 use Rattle.base_words.specs.Terms.{Terms}
-use Rattle.judge_sink.proofs.Owned.{left_owned, owned, owned_alike}
+use Rattle.actor_desk.proofs.LaneNotes.{plainly_stands}
 use Rattle.judge_sink.proofs.Seen.{left_unseen, seen, seen_alike}
 use Rattle.judge_sink.proofs.Standing.{OpensOver, stands}
-use Rattle.judge_sink.specs.Judged.{IsAllowed, IsApart, IsJudged, KeepsLinks, StandsOwn, is_elsewhere, is_half, is_half_done, without_awaited}
-use Rattle.judge_sink.specs.Replayed.{IsLeft, IsReplayed, OpensFirst, is_replayed, is_shut, replayed}
+use Rattle.judge_sink.specs.Judged.{IsAllowed, IsJudged, KeepsLinks, without_awaited}
+use Rattle.judge_sink.specs.Replayed.{IsLeft, IsReplayed, OpensFirst, is_half, is_half_done, is_replayed, replayed}
+use Rattle.judge_sink.specs.Tables.{FollowsSent}
 
 -- a note that isn't replayed begins no step
 left_whole : (core : ℕ) (note : Note ℕ) → is_replayed core note ≡ false → is_half note ≡ false
@@ -76,14 +77,6 @@ module _ (core : ℕ) where
       by_case rest true is = seen_alike (replayed core before) before rest (picked_alike before left.1) note
       by_case rest false is = rest ∙ sym (left_unseen core note before is)
 
-  owned_replayed : (has : Journal ℕ) → owned core (replayed core has) ≡ owned core has
-  owned_replayed [] = refl
-  owned_replayed (note ∷ before) = by_case (owned_replayed before) (is_replayed core note) refl
-    where
-      by_case : owned core (replayed core before) ≡ owned core before → (test : Bool) → is_replayed core note ≡ test → owned core (if test then note ∷ replayed core before else replayed core before) ≡ owned core (note ∷ before)
-      by_case rest true is = owned_alike core (replayed core before) before rest note
-      by_case rest false is = rest ∙ sym (left_owned core note before is)
-
 module _ (terms : Terms) where
   opens_over : (note : Note ℕ) (before : Journal ℕ) → EachNote (IsLeft terms.actor) before → OpensFirst terms.actor note before → MayStand terms note (replayed terms.actor before) →
       OpensOver note (replayed terms.actor before) before
@@ -92,33 +85,32 @@ module _ (terms : Terms) where
   opens_over note before left first may = tt
 
   -- a note that is replayed may stand behind all notes
-  behind_all : (note : Note ℕ) (before : Journal ℕ) → EachNote (IsLeft terms.actor) before → OpensFirst terms.actor note before → IsAllowed terms.actor terms.cores note before →
+  behind_all : (note : Note ℕ) (before : Journal ℕ) → EachNote (IsLeft terms.actor) before → OpensFirst terms.actor note before → IsAllowed terms.actor terms.cores note before → FollowsSent terms note before →
       is_replayed terms.actor note ≡ true → MayStand terms note (replayed terms.actor before) → MayStand terms note before
-  behind_all note before left first links mine may =
-      stands (replayed terms.actor before) before (seen_replayed terms.actor before left) (picked_alike terms.actor before left) terms (owned_replayed terms.actor before) note
-      (awaited_alike terms.actor before left) mine links (opens_over note before left first may) may
+  behind_all note before left first gates sent mine may =
+      stands (replayed terms.actor before) before (seen_replayed terms.actor before left) (picked_alike terms.actor before left) terms note
+      (awaited_alike terms.actor before left) mine gates sent (opens_over note before left first may) may
 
-  -- a gate is shut that may be, and the rest is told elsewhere
+  -- so may any other between two steps
   left_behind : (note : Note ℕ) (before : Journal ℕ) → terms.actor < terms.cores → is_replayed terms.actor note ≡ false → is_half_done before ≡ false → IsAllowed terms.actor terms.cores note before →
-      StandsOwn terms note before
-  left_behind (Shut sender count) before core_in left whole links = λ own. record {
-    may_follow = links.next;
-    turn = ap is_some (picked_none before whole);
-    effect = rw (awaited_none before whole) tt;
-    writer = core_in;
-  }
-  left_behind note before core_in left whole links = λ own. absurd (true≢false (sym (sym left ∙ ap not own)))
+      FollowsSent terms note before → MayStand terms note before
+  left_behind (Shut sender count) before core_in left whole gates sent = plainly_stands terms (Shut sender count) before core_in gates.next (picked_none before whole) (awaited_none before whole) refl tt
+  left_behind (Sent name order) before core_in left whole gates sent = plainly_stands terms (Sent name order) before tt sent (picked_none before whole) (awaited_none before whole) refl tt
+  left_behind (Collected name outcome) before core_in left whole gates sent = plainly_stands terms (Collected name outcome) before tt sent (picked_none before whole) (awaited_none before whole) refl tt
+  left_behind (Redeemed name outcome) before core_in left whole gates sent = plainly_stands terms (Redeemed name outcome) before tt sent (picked_none before whole) (awaited_none before whole) refl tt
+  left_behind (Detached name) before core_in left whole gates sent = plainly_stands terms (Detached name) before tt sent (picked_none before whole) (awaited_none before whole) refl tt
+  left_behind note before core_in left whole gates sent = absurd (true≢false left)
 
-  -- each note that isn't told elsewhere may stand where it stands
+  -- each note may stand where it stands
   each_stands : (has : Journal ℕ) → terms.actor < terms.cores → EachNote (IsLeft terms.actor) has → EachNote (OpensFirst terms.actor) has → EachNote (KeepsLinks terms.actor terms.cores) has →
-      EachNote (MayStand terms) (replayed terms.actor has) → EachNote (StandsOwn terms) has
-  each_stands [] core_in left first links = λ may. tt
-  each_stands (note ∷ before) core_in left first links = by_case (each_stands before core_in left.1 first.1 links.1) (is_replayed terms.actor note) refl
+      EachNote (FollowsSent terms) has → EachNote (MayStand terms) (replayed terms.actor has) → EachNote (MayStand terms) has
+  each_stands [] core_in left first gates sent = λ may. tt
+  each_stands (note ∷ before) core_in left first gates sent = by_case (each_stands before core_in left.1 first.1 gates.1 sent.1) (is_replayed terms.actor note) refl
     where
-      by_case : (EachNote (MayStand terms) (replayed terms.actor before) → EachNote (StandsOwn terms) before) → (test : Bool) → is_replayed terms.actor note ≡ test →
-          EachNote (MayStand terms) (if test then note ∷ replayed terms.actor before else replayed terms.actor before) → EachNote (StandsOwn terms) (note ∷ before)
-      by_case rest true is may = ((λ own. behind_all note before left.1 first.0 links.0.allowed is may.0), rest may.1)
-      by_case rest false is may = (left_behind note before core_in is (left.0 is) links.0.allowed, rest may)
+      by_case : (EachNote (MayStand terms) (replayed terms.actor before) → EachNote (MayStand terms) before) → (test : Bool) → is_replayed terms.actor note ≡ test →
+          EachNote (MayStand terms) (if test then note ∷ replayed terms.actor before else replayed terms.actor before) → EachNote (MayStand terms) (note ∷ before)
+      by_case rest true is may = (behind_all note before left.1 first.0 gates.0.allowed sent.0 is may.0, rest may.1)
+      by_case rest false is may = (left_behind note before core_in is (left.0 is) gates.0.allowed sent.0, rest may)
 
   -- if no answer waits, none was left away
   untrimmed : (has : Journal ℕ) → effect_awaited has ≡ None → EachNote (MayStand terms) (without_awaited has) → EachNote (MayStand terms) has
@@ -130,28 +122,20 @@ module _ (terms : Terms) where
       by_case false some = λ may. may
   untrimmed (note ∷ before) none = λ may. may
 
-  all_stand : (has : Journal ℕ) → IsReplayed terms has → effect_awaited has ≡ None → EachNote (StandsOwn terms) has
+  all_stand : (has : Journal ℕ) → IsReplayed terms has → effect_awaited has ≡ None → EachNote (MayStand terms) has
   all_stand has is none =
-      each_stands has is.core_in is.left is.opening is.links (untrimmed (replayed terms.actor has) (awaited_alike terms.actor has is.left ∙ none) is.lawful)
+      each_stands has is.core_in is.left is.opening is.links is.sent (untrimmed (replayed terms.actor has) (awaited_alike terms.actor has is.left ∙ none) is.lawful)
 
-  own_stand : (has : Journal ℕ) → IsReplayed terms has → EachNote (StandsOwn terms) (without_awaited has)
-  own_stand [] is = tt
-  own_stand (Answered name answer ∷ before) is = by_case (has_effect answer) refl is.lawful
+  stand : (has : Journal ℕ) → IsReplayed terms has → EachNote (MayStand terms) (without_awaited has)
+  stand [] is = tt
+  stand (Answered name answer ∷ before) is = by_case (has_effect answer) refl is.lawful
     where
       by_case : (effect : Bool) → has_effect answer ≡ effect → EachNote (MayStand terms) (if effect then replayed terms.actor before else Answered name answer ∷ replayed terms.actor before) →
-          EachNote (StandsOwn terms) (if effect then before else Answered name answer ∷ before)
-      by_case true effect may = each_stands before is.core_in is.left.1 is.opening.1 is.links.1 may
-      by_case false effect may = each_stands (Answered name answer ∷ before) is.core_in is.left is.opening is.links may
-  own_stand (note ∷ before) is = all_stand (note ∷ before) is refl
-
-each_as : (P Q : Note ℕ → Journal ℕ → Type 0) → ((note : Note ℕ) (before : Journal ℕ) → P note before → Q note before) → (has : Journal ℕ) → EachNote P has → EachNote Q has
-each_as P Q turn [] each = tt
-each_as P Q turn (note ∷ before) each = (turn note before each.0, each_as P Q turn before each.1)
+          EachNote (MayStand terms) (if effect then before else Answered name answer ∷ before)
+      by_case true effect may = each_stands before is.core_in is.left.1 is.opening.1 is.links.1 is.sent.1 may
+      by_case false effect may = each_stands (Answered name answer ∷ before) is.core_in is.left is.opening is.links is.sent may
+  stand (note ∷ before) is = all_stand (note ∷ before) is refl
 
 -- so what is replayed is judged
 pub replayed_judged : (terms : Terms) (has : Journal ℕ) → IsReplayed terms has → IsJudged terms has
-replayed_judged terms has is = record {
-  lawful = own_stand terms has is;
-  apart = each_as (IsLeft terms.actor) (IsApart terms.actor) (λ note before left elsewhere. left (and_right (not (is_shut note)) (not (is_elsewhere terms.actor note)) (ap not elsewhere))) has is.left;
-  links = is.links;
-}
+replayed_judged terms has is = record { lawful = stand terms has is; links = is.links }

@@ -10,9 +10,10 @@ use Rattle.base_words.specs.declared.note.Note.TheVariants.{Answered}
 use Rattle.host_house.specs.declared.house.OpenError.{OpenError}
 use Rattle.host_house.specs.declared.house.OpenError.TheVariants.{BadConfig, Memory}
 use Rattle.judge_sink.specs.declared.links.Links.{Links}
+use Rattle.judge_sink.specs.declared.table.Table.{Table}
 use Rattle.judge_sink.specs.Links.{KnowsLinks}
-use Rattle.judge_sink.specs.Judged.{is_half_done}
-use Rattle.judge_sink.specs.Replayed.{IsReplayed, is_replayed, replayed}
+use Rattle.judge_sink.specs.Replayed.{IsReplayed, is_half_done, is_replayed, replayed}
+use Rattle.judge_sink.specs.Tables.{KnowsTable}
 use Rattle.judge_sink.specs.Twins.{TwinView}
 
 -- whose notes they are, those that were told and found right, the newest first, and whether none was found wrong
@@ -38,18 +39,19 @@ pub record IsRead (twin : TwinView) (waits : Option (Note ℕ)) : Type 0 where
   pub may_wait : MayWait waits
 
 -- what is replayed of these notes was read, or waits; and whether any was left out
-pub record IsAlong (twin : TwinView) (waits : Option (Note ℕ)) (links : Links) (left half : Bool) (has : Journal ℕ) : Type 0 where
+pub record IsAlong (twin : TwinView) (waits : Option (Note ℕ)) (links : Links) (table : Table) (left half : Bool) (has : Journal ℕ) : Type 0 where
   pub again : replayed twin.terms.actor has ≡ with_next waits twin.read
   pub is_read : IsRead twin waits
   pub known : KnowsLinks links has
+  pub sent : KnowsTable twin.terms table has
   pub whole : left ≡ false → replayed twin.terms.actor has ≡ has
   pub step : half ≡ is_half_done has
 
 -- a judge is along with its notes as long as it found none wrong, and those that it found right are lawful
-pub record IsJudge (twin : TwinView) (waits : Option (Note ℕ)) (links : Links) (left half : Bool) (has : Journal ℕ) (goes_on : Bool) : Type 0 where
+pub record IsJudge (twin : TwinView) (waits : Option (Note ℕ)) (links : Links) (table : Table) (left half : Bool) (has : Journal ℕ) (goes_on : Bool) : Type 0 where
   pub core_is : twin.terms.actor ≡ links.core
   pub cores_are : twin.terms.cores ≡ links.cores
-  pub along : goes_on ≡ true → IsAlong twin waits links left half has
+  pub along : goes_on ≡ true → IsAlong twin waits links table left half has
   pub right : IsReplayed twin.terms has
 
 -- one more note was read, or waits

@@ -1,10 +1,11 @@
 pub mod Judged
 pub mod Links
+pub mod Lanes
+pub mod Tables
 pub mod Replayed
 pub mod Twins
 pub mod Judging
 pub mod Sinks
 pub mod Opens
-pub mod Laws
 pub mod Bad
 pub mod Actors

@@ -10,9 +10,9 @@ use Rattle.judge_sink.specs.declared.links.Links.{Links}
 abbrev pub counted : ℕ → ℕ
 counted count = min count (2 ^ 64 - 1)
 
--- whether the core is closed, how many orders were sent to each core and delivered of each sender, and the count of each gate that is shut
+-- whether the core is closed, how many orders it sent to itself and were delivered of each sender, and the count of each gate that is shut
 pub record KnowsLinks (links : Links) (before : Journal ℕ) : Type 0 where
   pub closed : links.closed ≡ true → IsSome (core_mode before)
-  pub sent : (to : ℕ) → slice_index_or links.sent to 0 ≡ counted (length (accepted_orders to before))
+  pub sent : links.sent ≡ counted (length (accepted_orders links.core before))
   pub delivered : (sender : ℕ) → slice_index_or links.delivered sender 0 ≡ counted (length (delivered_names sender before))
   pub counts : (sender : ℕ) → slice_index_or links.counts sender None ≡ final_count sender before

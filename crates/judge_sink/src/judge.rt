@@ -1,21 +1,21 @@
 //! What judges a core's notes, one after another.
 //!
 //! A note goes one of three ways: it is left out, if it tells of a gate or of a submission to another core; it waits, if it is an answer whose
-//! command the next note tells; or it is read on the core of a house. What all notes ask of the links is judged beside that. What was found right
-//! stands in `has`, for the proof alone. At the first wrong note the core has gone on, so nothing is judged from then on.
+//! command the next note tells; or it is read on the core of a house. What all notes ask of the gates and of submissions is judged beside that. What
+//! was found right stands in `has`, for the proof alone. At the first wrong note the core has gone on, so nothing is judged from then on.
 
 ghost use Rattle.std.specs.Prelude.{◌≡◌, ◌<◌, ◌∷◌, ◌++◌, ◌||◌, ℕ, [], None, Some, IfSome, false, length, not, reverse, take, true};
 ghost use Rattle.base_words.specs.Journal.{Journal};
 ghost use Rattle.judge_sink.specs.Links.{KnowsLinks};
-ghost use Rattle.judge_sink.specs.Judged.{IsAllowed, IsJudged, is_half_done};
+ghost use Rattle.judge_sink.specs.Judged.{IsJudged, IsAllowed};
 ghost use Rattle.judge_sink.specs.Judging.{IsRead, MayWait, OpensJudge, ReadsOn, Steps};
-ghost use Rattle.judge_sink.specs.Replayed.{OpensFirst, replayed};
+ghost use Rattle.judge_sink.specs.Replayed.{OpensFirst, is_half_done, replayed};
 ghost use Rattle.base_words.specs.Commands as commands;
-ghost use Rattle.judge_sink.specs.Judged as spec;
-ghost use Rattle.judge_sink.specs.Replayed as again;
+ghost use Rattle.judge_sink.specs.Replayed as spec;
 
 use crate::house::House;
 use crate::links::Links;
+use crate::table::Table;
 use base_sealed::History;
 use base_words::{Answer, CoreNo, Note};
 use host_house::OpenError;
@@ -29,6 +29,7 @@ pub(crate) struct Judge {
     /// An answer whose effect is still to be told: which command it answers only the effect says.
     waits: Option<Note<u64>>,
     links: Links,
+    table: Table,
     /// Whether a note was left out.
     left: bool,
     /// Whether the last note begins a step that the next one ends.
@@ -47,7 +48,7 @@ impl Model for Judge {
 
     ghost view = { λ judge. record { terms = judge.house.terms; has = reverse judge.has.items; goes_on = judge.goes_on } };
 
-    ghost invariant = { λ judge. IsJudge judge.house judge.waits judge.links judge.left judge.half (reverse judge.has.items) judge.goes_on };
+    ghost invariant = { λ judge. IsJudge judge.house judge.waits judge.links judge.table judge.left judge.half (reverse judge.has.items) judge.goes_on };
 }
 
 /// Whether a note tells of a submission to another core than this one.
@@ -65,14 +66,14 @@ fn is_elsewhere(core: CoreNo, note: &Note<u64>) -> bool
 
 /// Whether a note tells that a gate was shut.
 fn is_shut(note: &Note<u64>) -> bool
-    ensures { result ≡ again.is_shut note.now }
+    ensures { result ≡ spec.is_shut note.now }
 {
     matches!(note, Note::Shut(..))
 }
 
 /// Whether a note is replayed.
 fn is_replayed(core: CoreNo, note: &Note<u64>) -> bool
-    ensures { result ≡ again.is_replayed core note.now }
+    ensures { result ≡ spec.is_replayed core note.now }
 {
     !is_shut(note) && !is_elsewhere(core, note)
 }
@@ -87,9 +88,9 @@ fn may_open(note: &Note<u64>, half: bool, left: bool) -> bool
     }
 }
 
-/// Whether a note keeps to the links, and opens a queue only where it may.
+/// Whether a note keeps to the gates, and opens a queue only where it may.
 fn fits(links: &Links, half: bool, left: bool, note: &Note<u64>) -> bool
-    ensures links { result ≡ true → (before : Journal ℕ) → KnowsLinks links.now before → IsAllowed links.now.core links.now.cores note.now before }
+    ensures gates { result ≡ true → (before : Journal ℕ) → KnowsLinks links.now before → IsAllowed links.now.core links.now.cores note.now before }
     ensures opens { result ≡ true → (core : ℕ) (before : Journal ℕ) → half ≡ is_half_done before → (left ≡ false → replayed core before ≡ before) → OpensFirst core note.now before }
 {
     links.allow(note) && may_open(note, half, left)
@@ -97,7 +98,7 @@ fn fits(links: &Links, half: bool, left: bool, note: &Note<u64>) -> bool
 
 /// Whether a note was left out, this one counted too.
 fn is_left(left: bool, core: CoreNo, note: &Note<u64>) -> bool
-    ensures { result ≡ (left || not (again.is_replayed core note.now)) }
+    ensures { result ≡ (left || not (spec.is_replayed core note.now)) }
 {
     left || !is_replayed(core, note)
 }
@@ -184,18 +185,20 @@ impl Judge {
     ) -> Result<Self, OpenError>
         ensures { OpensJudge core cores cap burst result }
     {
-        match House::open(alloc, core, cores, cap, burst) {
-            Ok(house) => Ok(Judge {
-                house,
-                waits: None,
-                links: Links::new(core, cores),
-                left: false,
-                half: false,
-                goes_on: true,
-                has: History::new(),
-            }),
-            Err(error) => Err(error),
-        }
+        let house = House::open(alloc, core, cores, cap, burst)?;
+        let Ok(table) = Table::open(alloc, core, cores, cap) else {
+            return Err(OpenError::Memory);
+        };
+        Ok(Judge {
+            house,
+            waits: None,
+            links: Links::new(core, cores),
+            table,
+            left: false,
+            half: false,
+            goes_on: true,
+            has: History::new(),
+        })
     }
 
     /// Whether no note was found wrong.
@@ -214,7 +217,8 @@ impl Judge {
         let core = self.links.core();
         let fits = fits(&self.links, self.half, self.left, note);
         let steps = step_on(&mut self.house, &mut self.waits, core, self.half, note);
-        if !fits || !steps {
+        let follows = self.table.keeps(note);
+        if !fits || !steps || !follows {
             self.goes_on = false;
             return false;
         }

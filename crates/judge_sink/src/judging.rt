@@ -31,7 +31,7 @@ pub enum JudgingError<S> {
 /// what its own core has done can't be undone, so it couldn't judge them. For the same reason it refuses all notes once the inner sink has refused
 /// some. Who wants to try a sink again puts what tries again inside.
 ///
-/// Of submissions to other cores the numbers alone are judged.
+/// Which outcome another core gave is for its own journal to tell.
 #[derive(Drop)]
 pub struct Judging<S: Sink> {
     inner: S,

@@ -9,6 +9,7 @@ pub mod laws;
 mod links;
 mod orders;
 mod senders;
+mod table;
 mod twin;
 
 pub use actors::ActorSink;

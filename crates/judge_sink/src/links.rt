@@ -1,14 +1,15 @@
 //! What the notes of a core tell of its links.
 //!
 //! On the core that does its notes again each gate stays open: when a gate is shut, it isn't told yet which orders come through it. So what notes
-//! ask of the gates is judged here, and of the numbers of what the core sent.
+//! ask of the gates is judged here.
 
-ghost use Rattle.std.specs.Prelude.{◌≡◌, ◌+◌, ◌<◌, ◌∷◌, ℕ, [], length, slice_index_or, slice_set, true};
+ghost use Rattle.std.specs.Prelude.{◌≡◌, ◌+◌, ◌<◌, ◌==◌, ◌∷◌, ℕ, [], None, length, slice_index_or, slice_set, true};
 ghost use Rattle.base_words.specs.Closing.{IsCounted};
 ghost use Rattle.base_words.specs.Journal.{Journal};
 ghost use Rattle.base_words.specs.Filters.{accepted_orders};
-ghost use Rattle.judge_sink.specs.Judged.{IsAllowed, MaySend, MayShut, WasSent};
+ghost use Rattle.judge_sink.specs.Judged.{IsAllowed};
 ghost use Rattle.judge_sink.specs.Links.{KnowsLinks, counted};
+ghost use Rattle.base_words.specs.Work.{number_if};
 ghost use Rattle.base_words.specs.Closing as closing;
 
 use base_words::{ActorNo, CoreNo, JobId, LAST_NUMBER, Note};
@@ -20,8 +21,8 @@ pub(crate) struct Links {
     cores: u8,
     /// Whether the core is closed.
     closed: bool,
-    /// How many orders the core sent to each core.
-    sent: [u64; 256],
+    /// How many orders the core sent to itself.
+    sent: u64,
     /// How many orders were delivered of each sender.
     delivered: [u64; 256],
     /// The count of each gate that was shut.
@@ -39,7 +40,7 @@ impl Links {
             core,
             cores,
             closed: false,
-            sent: [0; 256],
+            sent: 0,
             delivered: [0; 256],
             counts: [None; 256],
         }
@@ -68,8 +69,7 @@ impl Links {
     fn shuts_own(&self, sender: ActorNo, count: u64) -> bool
         ensures { (before : Journal ℕ) → KnowsLinks self.now before → result ≡ true → sender ≡ self.now.core → count ≡ length (accepted_orders self.now.core before) }
     {
-        let sent = self.sent[self.core.0 as usize];
-        sender.0 != self.core.0 || count == sent && count <= LAST_NUMBER
+        sender.0 != self.core.0 || count == self.sent && count <= LAST_NUMBER
     }
 
     /// Whether the gate of its sender lets this order in.
@@ -82,30 +82,14 @@ impl Links {
         }
     }
 
-    /// Whether the core may send this order, under this name.
-    fn may_send(&self, name: JobId) -> bool
-        ensures { (before : Journal ℕ) → KnowsLinks self.now before → result ≡ true → MaySend self.now.core self.now.cores name before }
+    /// Whether the core may send to this core: to itself until its own gate is shut.
+    fn is_open(&self, to: CoreNo) -> bool
+        ensures { (before : Journal ℕ) → KnowsLinks self.now before → result ≡ true → to ≡ self.now.core → closing.final_count self.now.core before ≡ None }
     {
-        let place = name.to.0 as usize;
-        let own = name.to.0 != self.core.0 || self.counts[place].is_none();
-        name.from.0 == self.core.0
-            && name.to.0 < self.cores
-            && name.number <= LAST_NUMBER
-            && name.number > 0
-            && name.number - 1 == self.sent[place]
-            && own
+        to.0 != self.core.0 || self.counts[self.core.0 as usize].is_none()
     }
 
-    /// Whether the core sent this order.
-    fn was_sent(&self, name: JobId) -> bool
-        ensures { (before : Journal ℕ) → KnowsLinks self.now before → result ≡ true → WasSent self.now.core name before }
-    {
-        name.from.0 == self.core.0
-            && name.number > 0
-            && name.number <= self.sent[name.to.0 as usize]
-    }
-
-    /// Whether a note keeps to the links.
+    /// Whether a note keeps to the gates.
     pub(crate) fn allow(&self, note: &Note<u64>) -> bool
         ensures { (before : Journal ℕ) → KnowsLinks self.now before → result ≡ true → IsAllowed self.now.core self.now.cores note.now before }
     {
@@ -115,10 +99,7 @@ impl Links {
             Note::Took(name, _) => self.lets_in(name),
             Note::Back(name, _) => self.lets_in(name),
             Note::Answered(name, _) => self.lets_in(name),
-            Note::Sent(name, _) => self.may_send(name),
-            Note::Collected(name, _) => self.was_sent(name),
-            Note::Redeemed(name, _) => self.was_sent(name),
-            Note::Detached(name) => self.was_sent(name),
+            Note::Sent(name, _) => self.is_open(name.to),
             _ => true,
         }
     }
@@ -134,11 +115,11 @@ impl Links {
 
     /// One more order was sent to this core.
     fn add_sent(&mut self, to: CoreNo)
-        ensures there { to < length self.old.sent }
-        ensures more { self.new ≡ record self.old { sent = slice_set self.old.sent to (counted (slice_index_or self.old.sent to 0 + 1)) } }
+        ensures { self.new ≡ record self.old { sent = counted (self.old.sent + number_if (to == self.old.core)) } }
     {
-        let place = to.0 as usize;
-        self.sent[place] = self.sent[place].saturating_add(1);
+        if to.0 == self.core.0 {
+            self.sent = self.sent.saturating_add(1);
+        }
     }
 
     /// Keeps what a note tells.

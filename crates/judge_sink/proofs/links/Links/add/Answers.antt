@@ -16,4 +16,4 @@ returns-in-Answered-clause-knows c =
 
 pub returns-in-Sent-clause-knows : goal.returns-in-Sent-clause-knows
 returns-in-Sent-clause-knows c =
-    λ before knows. rw c.in-Sent.is (knows_sent c.args.self.now c.add_sent.new.self before knows c.in-Sent.name c.add_sent.ensures.there c.add_sent.ensures.more c.in-Sent.field-1)
+    λ before knows. rw c.in-Sent.is (knows_sent c.args.self.now c.add_sent.new.self before knows c.in-Sent.name c.add_sent.ensures c.in-Sent.field-1)

@@ -8,12 +8,3 @@ returns-in-Back c = λ before knows yes. rw c.in-Back.is (c.lets_in-in-Back.ensu
 
 pub returns-in-Answered : goal.returns-in-Answered
 returns-in-Answered c = λ before knows yes. rw c.in-Answered.is (c.lets_in-in-Answered.ensures before knows yes)
-
-pub returns-in-Collected : goal.returns-in-Collected
-returns-in-Collected c = λ before knows yes. rw c.in-Collected.is (c.was_sent.ensures before knows yes)
-
-pub returns-in-Redeemed : goal.returns-in-Redeemed
-returns-in-Redeemed c = λ before knows yes. rw c.in-Redeemed.is (c.was_sent-in-Redeemed.ensures before knows yes)
-
-pub returns-in-Detached : goal.returns-in-Detached
-returns-in-Detached c = λ before knows yes. rw c.in-Detached.is (c.was_sent-in-Detached.ensures before knows yes)

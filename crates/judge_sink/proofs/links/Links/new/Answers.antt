@@ -7,7 +7,7 @@ use Rattle.judge_sink.proofs.links.Links.new.Goals as goal
 pub returns-clause-knows : goal.returns-clause-knows
 returns-clause-knows c = record {
   closed = λ closed. absurd (true≢false (sym closed));
-  sent = λ to. all_alike 256 to 0 0 refl;
+  sent = refl;
   delivered = λ sender. all_alike 256 sender 0 0 refl;
   counts = λ sender. all_alike 256 sender None None refl;
 }
