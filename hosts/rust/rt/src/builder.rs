@@ -129,9 +129,9 @@ impl Builder {
         self
     }
 
-    /// [`yield_if_needed`](crate::yield_if_needed) yields, in the queue that was named last, after so much time. Tasks and calls of the queue that run
-    /// one behind the other let other queues run then, too. At first it is 10 µs. A short slice of a background queue is what keeps the latency of the
-    /// others low: a task that becomes ready waits for the run that goes on.
+    /// [`yield_if_needed`](crate::yield_if_needed) yields, in the queue that was named last, after so much time, or sooner if something comes. Tasks and
+    /// calls of the queue that run one behind the other let other queues run then, too. At first it is 10 µs. A short slice of a background queue keeps
+    /// the latency of the others low: a task whose timer is due waits for the run that goes on.
     ///
     /// # Panics
     ///
@@ -167,7 +167,7 @@ impl Builder {
         self
     }
 
-    /// A core that has work asks its reactor after so much time. At first it is 25 µs.
+    /// A core that has work asks its reactor after so much time, also in a run, by [`yield_if_needed`](crate::yield_if_needed). At first it is 25 µs.
     pub fn reactor_every(mut self, time: Duration) -> Builder {
         self.setup.reactor_every = time;
         self

@@ -87,7 +87,10 @@ fn send_calls(local: &Local, mut submit: impl FnMut(u32, u32, Job) -> Result<Tic
             let Some((queue, calls)) = outbox.borrow_mut().pop_front() else { break };
             let count = calls.len();
             match submit(to, queue, Job::Calls(calls)) {
-                Ok(ticket) => local.sent[to as usize].borrow_mut().add_calls(queue, ticket, count),
+                Ok(ticket) => {
+                    local.sent[to as usize].borrow_mut().add_calls(queue, ticket, count);
+                    local.shared.ports[to as usize].tell_calls();
+                }
                 // The core is closing: who calls is told by the drop.
                 Err((fairexec::Error::Closed, calls)) => drop(calls),
                 Err((error, calls)) => {
@@ -146,8 +149,7 @@ impl<'a> Driver<'a> {
     }
 
     fn run_until_end(&mut self) -> Result<(), Error> {
-        let (mut now, mut polled, mut has_told) = (wall_clock(), 0, false);
-        let reactor_every = self.setup.reactor_every.as_nanos() as u64;
+        let (mut now, mut has_told) = (wall_clock(), false);
         while !self.local.shared.ending.is_closing() {
             if !has_told && self.local.shared.ending.is_stopping() {
                 has_told = true;
@@ -167,7 +169,7 @@ impl<'a> Driver<'a> {
                 self.core.hand_on(self.taker())?;
                 (self.writes, self.is_unwritten) = (now + WRITTEN_EVERY, false);
             }
-            let asks = now - polled >= reactor_every;
+            let asks = self.local.reactor.asks(now);
             if is_idle {
                 self.tell_quiet(has_told);
                 self.sleep(now, has_told, asks)?;
@@ -178,7 +180,6 @@ impl<'a> Driver<'a> {
             }
             if self.local.reactor.wake() {
                 now = wall_clock();
-                polled = now;
             }
         }
         Ok(())
@@ -195,6 +196,7 @@ impl<'a> Driver<'a> {
         local.timers.fire(now);
         let mut did = local.take_mail();
         did |= self.submit_ready()?;
+        local.shared.ports[local.number as usize].sees_calls();
         did |= self.round()?;
         did |= self.send()?;
         self.own.redeem_ended(self.core)?;

@@ -106,8 +106,9 @@ pub(crate) struct Local {
     running: Cell<usize>,
     /// That task, if it was woken while it is polled.
     again: RefCell<Option<Turn>>,
-    /// When the run began that goes on, and the slice of its queue.
+    /// When the run began that goes on, its queue, and the slice of that.
     pub(crate) began: Cell<u64>,
+    pub(crate) queue: Cell<u32>,
     pub(crate) slice: Cell<u64>,
     /// By the core: calls that go there once its link has room, with their queue.
     pub(crate) outbox: Vec<RefCell<VecDeque<(u32, Calls)>>>,
@@ -180,6 +181,7 @@ impl Local {
             running: Cell::new(NONE),
             again: RefCell::default(),
             began: Cell::new(0),
+            queue: Cell::new(0),
             slice: Cell::new(0),
             outbox: (0..cores).map(|_| RefCell::default()).collect(),
             orders: RefCell::default(),
@@ -297,12 +299,6 @@ impl Local {
         if !self.has_closed.get() {
             self.ready[queue as usize].borrow_mut().push_back(turn);
         }
-    }
-
-    /// A run of the library begins.
-    pub(crate) fn begin(&self, queue: u32) {
-        self.began.set(wall_clock());
-        self.slice.set(self.shared.queues[queue as usize].slice);
     }
 
     /// Polls a task once. It is given back if it was woken meanwhile.

@@ -2,6 +2,7 @@
 //! since then. What a side may do is remembered until a call would block.
 
 use crate::local::{here, with_here};
+use fairexec::wall_clock;
 use mio::event::Event;
 use mio::unix::SourceFd;
 use mio::{Events, Interest, Poll as Epoll, Token, Waker as Bell};
@@ -102,11 +103,14 @@ pub(crate) struct Reactor {
     events: RefCell<Events>,
     // Whether nobody was woken for the events of the last wait.
     has_waited: Cell<bool>,
+    // When they were woken last, and how long that is enough for a core that has work.
+    woke: Cell<u64>,
+    every: u64,
 }
 
 impl Reactor {
     /// A reactor, and what ends its wait from any thread. A ring is kept until it is heard.
-    pub(crate) fn new() -> io::Result<(Reactor, Bell)> {
+    pub(crate) fn new(every: Duration) -> io::Result<(Reactor, Bell)> {
         let (epoll, timer) = (Epoll::new()?, Timer::new()?);
         let bell = Bell::new(epoll.registry(), NO_FILE)?;
         epoll.registry().register(&mut SourceFd(&timer.0.as_raw_fd()), NO_FILE, Interest::READABLE)?;
@@ -117,6 +121,8 @@ impl Reactor {
                 sources: RefCell::default(),
                 events: RefCell::new(Events::with_capacity(1024)),
                 has_waited: Cell::new(false),
+                woke: Cell::new(0),
+                every: every.as_nanos() as u64,
             },
             bell,
         ))
@@ -128,11 +134,18 @@ impl Reactor {
         if next < longest {
             self.timer.set(next)?;
         }
+        // A waker that is called for an event may come here again.
+        let Ok(mut events) = self.events.try_borrow_mut() else { return Ok(()) };
         self.has_waited.set(true);
-        match self.epoll.borrow_mut().poll(&mut self.events.borrow_mut(), Some(longest)) {
+        match self.epoll.borrow_mut().poll(&mut events, Some(longest)) {
             Err(error) if error.kind() != ErrorKind::Interrupted => Err(error),
             _ => Ok(()),
         }
+    }
+
+    /// Whether a core that has work asks for events by now.
+    pub(crate) fn asks(&self, now: u64) -> bool {
+        now.saturating_sub(self.woke.get()) >= self.every
     }
 
     /// Wakes who waits for the events that came. False if there was no wait since the last time.
@@ -145,6 +158,7 @@ impl Reactor {
             let wakers = source.map(|it| it.tell(event));
             wakers.into_iter().flatten().flatten().for_each(Waker::wake);
         }
+        self.woke.set(wall_clock());
         true
     }
 

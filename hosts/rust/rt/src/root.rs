@@ -130,7 +130,7 @@ where
     let mut failing = Failing(Some(Arc::clone(&shared)));
     let number = core.number();
     setup.pin.apply(number)?;
-    let (reactor, bell) = Reactor::new()?;
+    let (reactor, bell) = Reactor::new(setup.reactor_every)?;
     // A ring that fails has no end of the wait, and nobody else to tell. An eventfd fails if the process has closed it.
     core.set_bell(move || bell.wake().expect("an eventfd takes a ring"));
     core.set_clock(clock);

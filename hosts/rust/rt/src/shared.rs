@@ -77,6 +77,8 @@ pub(crate) enum Mail {
 pub(crate) struct Port {
     ringer: Ringer,
     has_mail: AtomicBool,
+    // Whether calls went here since the core delivered last. It ends a slice early, and nothing depends on it.
+    has_calls: AtomicBool,
     // None once the core has ended.
     mail: Mutex<Option<Vec<Mail>>>,
     counts: Mutex<Counts>,
@@ -103,6 +105,7 @@ impl Port {
         Port {
             ringer: core.ringer(),
             has_mail: AtomicBool::new(false),
+            has_calls: AtomicBool::new(false),
             mail: Mutex::new(Some(Vec::new())),
             counts: Mutex::new(Counts::of(core)),
             tasks: AtomicU64::new(0),
@@ -162,6 +165,23 @@ impl Port {
     /// Whether mail was left: what a core looks at before it sleeps.
     pub(crate) fn has_mail(&self) -> bool {
         self.has_mail.load(Ordering::SeqCst)
+    }
+
+    /// Tells that calls went here.
+    pub(crate) fn tell_calls(&self) {
+        self.has_calls.store(true, Ordering::Relaxed);
+    }
+
+    /// The core is about to see the calls that went here.
+    pub(crate) fn sees_calls(&self) {
+        if self.has_calls.load(Ordering::Relaxed) {
+            self.has_calls.store(false, Ordering::Relaxed);
+        }
+    }
+
+    /// Whether mail or calls came that the core hasn't seen.
+    pub(crate) fn has_some(&self) -> bool {
+        self.has_mail.load(Ordering::Relaxed) || self.has_calls.load(Ordering::Relaxed)
     }
 
     /// Takes all mail, and leaves this room for more.

@@ -1,6 +1,6 @@
 //! How a task that computes lets others run.
 
-use crate::local::here;
+use crate::local::{here, Local};
 use fairexec::wall_clock;
 use std::future::poll_fn;
 use std::task::Poll;
@@ -57,8 +57,8 @@ pub fn ran_for() -> Duration {
 }
 
 /// Ends the slice of a task that computes: it lets others run if its run is as long as the slice of its queue, which
-/// [`Builder::slice`](crate::Builder::slice) says. Nothing is broken off without it, and no shares help a task that waits behind a long run. So a
-/// loop in a background task calls this each time around.
+/// [`Builder::slice`](crate::Builder::slice) says, or if something came meanwhile for a queue that had nothing to run. Nothing is broken off without
+/// it, and no shares help a task that waits behind a long run. So a loop in a background task calls this each time around.
 ///
 /// # Panics
 ///
@@ -78,8 +78,35 @@ pub fn ran_for() -> Duration {
 /// # Ok::<(), fairexec_rt::Error>(())
 /// ```
 pub async fn yield_if_needed() {
-    let is_over = here(|it| wall_clock().saturating_sub(it.began.get()) >= it.slice.get());
-    if is_over {
+    if here(Local::is_over) {
         yield_now().await;
+    }
+}
+
+impl Local {
+    /// A run of the library begins.
+    pub(crate) fn begin(&self, queue: u32) {
+        self.began.set(wall_clock());
+        self.queue.set(queue);
+        self.slice.set(self.shared.queues[queue as usize].slice);
+    }
+
+    /// Whether the run that goes on has to end: its slice is over, or something came meanwhile.
+    fn is_over(&self) -> bool {
+        let now = wall_clock();
+        now.saturating_sub(self.began.get()) >= self.slice.get()
+            || self.shared.ports[self.number as usize].has_some()
+            || (self.reactor.asks(now) && self.finds_some())
+    }
+
+    /// Asks the reactor in the middle of a run. Whether a task can go on now in another queue, which had none.
+    #[cold]
+    fn finds_some(&self) -> bool {
+        let idle = || (0..).zip(&self.ready).filter(|(queue, it)| *queue != self.queue.get() && it.borrow().is_empty()).count();
+        let before = idle();
+        // An error comes again behind this run.
+        let _ = self.reactor.wait(Duration::ZERO, Duration::MAX);
+        self.reactor.wake();
+        idle() < before
     }
 }

@@ -1,9 +1,14 @@
 //! Sockets, signals and files.
 
 use fairexec_rt::net::{Reads, TcpListener, TcpStream, UnixListener, UnixStream};
-use fairexec_rt::{chan, fs, signal, sleep, spawn_local, stop, stopping, submit, timeout, Executor, Journal, Queue};
+use fairexec_rt::{chan, fs, signal, sleep, spawn_local, stop, stopping, submit, timeout, yield_if_needed, Executor, Journal, Queue};
 use futures_lite::{future, AsyncReadExt, AsyncWriteExt};
-use std::time::Duration;
+use std::cell::Cell;
+use std::io::Write;
+use std::os::unix::net::UnixStream as StdStream;
+use std::rc::Rc;
+use std::thread;
+use std::time::{Duration, Instant};
 
 /// Sends back what comes.
 async fn echo(mut stream: TcpStream) {
@@ -176,6 +181,40 @@ fn a_slow_answer_isnt_idle() {
         }
         assert_eq!(client.read(&mut [0]).await.unwrap(), 0);
         serves.await.unwrap();
+    });
+    run.unwrap();
+}
+
+/// A task of the background whose slice is an hour computes until the requests of its core are done: they wait for a socket, for a call to the other
+/// core, and for a call from there.
+#[test]
+fn what_comes_ends_a_slice() {
+    let server = Executor::builder().cores(2).queue("requests", 1000).queue("background", 100).slice(Duration::from_secs(3600));
+    let run = server.run(|here| async move {
+        if here.core() == 0 {
+            return;
+        }
+        let (mut client, stream) = StdStream::pair().unwrap();
+        let mut stream = UnixStream::from_std(stream).unwrap();
+        let (is_done, ends) = (Rc::new(Cell::new(false)), Instant::now() + Duration::from_secs(20));
+        let computes = spawn_local(Queue::new(1), {
+            let is_done = Rc::clone(&is_done);
+            async move {
+                while !is_done.get() && Instant::now() < ends {
+                    yield_if_needed().await;
+                }
+                is_done.get()
+            }
+        });
+        thread::spawn(move || {
+            thread::sleep(Duration::from_millis(20));
+            client.write_all(b"a").unwrap();
+        });
+        stream.read_exact(&mut [0]).await.unwrap();
+        let told = submit(0, Queue::FIRST, || async { submit(1, Queue::FIRST, || async { 42 }).await });
+        assert_eq!(told.await, Ok(Ok(42)));
+        is_done.set(true);
+        assert!(computes.await.unwrap());
     });
     run.unwrap();
 }
