@@ -59,7 +59,8 @@ pub fn append(log: &Log, expires: u64, key: &[u8], value: &[u8]) {
 
 /// Waits until all that was appended is as safe as it has to be before this is answered.
 pub async fn safe<T>(answer: T) -> T {
-    if let Some(log) = shard(|it| it.log.clone()) {
+    let log = shard().borrow().log.clone();
+    if let Some(log) = log {
         // In a box, so that each call to another core has a small future.
         or_exit(Box::pin(async move { log.safe().await }).await);
     }
@@ -71,10 +72,9 @@ async fn compact(compaction: Compaction) -> io::Result<()> {
     let mut new = compaction.begin(COMPACTION).await?;
     let mut next = Some((0, Vec::new()));
     while let Some(last) = next {
-        next = shard(|it| {
-            let (key, it) = it.entries.range((Excluded(last), Unbounded)).next()?;
+        next = shard().borrow().entries.range((Excluded(last), Unbounded)).next().map(|(key, it)| {
             new.append(&[&it.expires.to_le_bytes(), &(key.1.len() as u32).to_le_bytes(), &key.1, &it.value]);
-            Some(key.clone())
+            key.clone()
         });
         new.step().await?;
     }

@@ -17,8 +17,8 @@ use fairexec_rt::net::{Reads, TcpListener, TcpStream};
 use fairexec_rt::{spawn_local, stats, submit, yield_if_needed, Call, Executor, Here, JoinHandle, Journal, Pin, Queue};
 use futures_lite::AsyncWriteExt;
 use resp::{number, parse};
-use shard::{bulk, error, key_of, text, Answer, Key, Shard, NO_NUMBER};
-use std::{cell::RefCell, io, io::Write, iter::once, path::PathBuf, time::Duration};
+use shard::{bulk, error, key_of, now, text, Answer, Entry, Key, Shard, NO_NUMBER};
+use std::{cell::RefCell, io, io::Write, iter::once, path::PathBuf, rc::Rc, time::Duration};
 
 const REQUESTS: Queue = Queue::FIRST;
 const COMPACTION: Queue = Queue::new(1);
@@ -26,11 +26,11 @@ const COMPACTION: Queue = Queue::new(1);
 const BATCH: usize = 128;
 const COMMANDS: &str = "PING ECHO GET SET DEL EXISTS INCR MGET MSET EXPIRE TTL DBSIZE SCAN FLUSHALL CONFIG CLIENT";
 
-thread_local!(static SHARD: RefCell<Shard> = RefCell::default());
+thread_local!(static SHARD: Rc<RefCell<Shard>> = Rc::default());
 
-/// Calls something with the shard of this core.
-fn shard<R>(call: impl FnOnce(&mut Shard) -> R) -> R {
-    SHARD.with_borrow_mut(call)
+/// The shard of this core.
+fn shard() -> Rc<RefCell<Shard>> {
+    SHARD.with(Rc::clone)
 }
 
 /// A command that was begun, on this core or another one, or its parts, and whether these have one answer: the sum of their numbers, or that of the first.
@@ -43,9 +43,9 @@ enum Does {
 /// Begins a part of a command on a core.
 fn on_core(here: &Here, core: u64, does: impl FnOnce(&mut Shard) -> Answer + Send + 'static) -> Does {
     if core == u64::from(here.core()) {
-        return Does::Here(shard(does));
+        return Does::Here(does(&mut shard().borrow_mut()));
     }
-    Does::There(submit(core as u32, REQUESTS, || log::safe(shard(does))))
+    Does::There(submit(core as u32, REQUESTS, || log::safe(does(&mut shard().borrow_mut()))))
 }
 
 /// The core of a hash: each has as many hashes, and those of one core follow each other.
@@ -85,8 +85,9 @@ fn command(here: &Here, words: &[&[u8]]) -> Does {
         (b"TTL", [key]) => on_key(here, key, Shard::left),
         (b"DBSIZE", []) => on_all(|it| Answer::Int(it.entries.len() as i64)),
         (b"FLUSHALL", [] | [_]) => on_all(Shard::flush),
+        (b"SET", [key, value]) => put(here, key, value),
         (b"SET", [key, value, options @ ..]) => set(here, key, value, options).unwrap_or_else(|| Does::Here(error("syntax error"))),
-        (b"MSET", all @ [_, ..]) if all.len() % 2 == 0 => Does::All(all.chunks(2).map(|it| put(here, it[0], it[1], None, false)).collect(), true),
+        (b"MSET", all @ [_, ..]) if all.len() % 2 == 0 => Does::All(all.chunks(2).map(|it| put(here, it[0], it[1])).collect(), true),
         (b"EXPIRE", [key, it]) => number(it).map_or(Does::Here(error(NO_NUMBER)), |it| on_key(here, key, move |to, key| to.expire(key, it))),
         (b"SCAN", [cursor, options @ ..]) => scan(here, cursor, options).unwrap_or_else(|| Does::Here(error("invalid cursor"))),
         (b"INFO", _) => Does::Here(info()),
@@ -99,21 +100,22 @@ fn command(here: &Here, words: &[&[u8]]) -> Does {
     }
 }
 
-fn put(here: &Here, key: &[u8], value: &[u8], ttl: Option<u64>, is_new: bool) -> Does {
-    let value = value.to_vec();
-    on_key(here, key, move |it, key| it.set(key, value, ttl, is_new))
+fn put(here: &Here, key: &[u8], value: &[u8]) -> Does {
+    let entry = Entry { value: value.to_vec(), expires: 0 };
+    on_key(here, key, |it, key| it.put(key, entry))
 }
 
 fn set(here: &Here, key: &[u8], value: &[u8], options: &[&[u8]]) -> Option<Does> {
-    let (mut ttl, mut is_new, mut options) = (None, false, options.iter());
+    let (mut expires, mut is_new, mut options) = (0, false, options.iter());
     while let Some(option) = options.next() {
         match option.to_ascii_uppercase().as_slice() {
             b"NX" => is_new = true,
-            b"EX" => ttl = Some(number::<u64>(options.next()?).filter(|it| (1..1 << 40).contains(it))? * 1000),
+            b"EX" => expires = now() + number::<u64>(options.next()?).filter(|it| (1..1 << 40).contains(it))? * 1000,
             _ => return None,
         }
     }
-    Some(put(here, key, value, ttl, is_new))
+    let entry = Entry { value: value.to_vec(), expires };
+    Some(on_key(here, key, move |it, key| if is_new && it.get(&key).is_some() { Answer::Value(None) } else { it.put(key, entry) }))
 }
 
 /// A cursor is a hash, and 0 is the end.
@@ -205,7 +207,7 @@ async fn serve(here: Here, mut stream: TcpStream, idle: Option<Duration>) -> io:
 /// What each core does.
 async fn run(here: Here, port: u16, idle: Option<Duration>, folder: Option<PathBuf>, fsync: Fsync, background: u32) {
     if let Some(folder) = folder {
-        SHARD.set(log::or_exit(log::open(&folder, &here, fsync).await));
+        shard().replace(log::or_exit(log::open(&folder, &here, fsync).await));
     }
     // A core that accepts calls the others, which have opened their shards then.
     here.barrier().await;

@@ -64,21 +64,14 @@ impl Shard {
     }
 
     /// Gives a key this value, in the log, too.
-    fn put(&mut self, key: Key, value: Vec<u8>, expires: u64) {
-        self.log.iter().for_each(|it| append(it, expires, &key.1, &value));
-        self.entries.insert(key, Entry { value, expires });
+    pub fn put(&mut self, key: Key, entry: Entry) -> Answer {
+        self.log.iter().for_each(|it| append(it, entry.expires, &key.1, &entry.value));
+        self.entries.insert(key, entry);
+        text(b"+OK\r\n")
     }
 
     pub fn value(&mut self, key: Key) -> Answer {
         Answer::Value(self.entries.get(&key).filter(|it| !is_over(it)).map(|it| it.value.clone()))
-    }
-
-    pub fn set(&mut self, key: Key, value: Vec<u8>, ttl: Option<u64>, is_new: bool) -> Answer {
-        if is_new && self.get(&key).is_some() {
-            return Answer::Value(None);
-        }
-        self.put(key, value, ttl.map_or(0, |it| now() + it));
-        text(b"+OK\r\n")
     }
 
     pub fn delete(&mut self, key: Key) -> Answer {
@@ -93,13 +86,13 @@ impl Shard {
     pub fn increase(&mut self, key: Key) -> Answer {
         let (count, expires) = self.get(&key).map_or((Some(0), 0), |it| (number::<i64>(&it.value), it.expires));
         let Some(count) = count.and_then(|it| it.checked_add(1)) else { return error(NO_NUMBER) };
-        self.put(key, count.to_string().into_bytes(), expires);
+        self.put(key, Entry { value: count.to_string().into_bytes(), expires });
         Answer::Int(count)
     }
 
     pub fn expire(&mut self, key: Key, seconds: i64) -> Answer {
         let Some(value) = self.get(&key).map(|it| std::mem::take(&mut it.value)) else { return Answer::Int(0) };
-        self.put(key, value, now().saturating_add_signed(seconds.saturating_mul(1000)).max(1));
+        self.put(key, Entry { value, expires: now().saturating_add_signed(seconds.saturating_mul(1000)).max(1) });
         Answer::Int(1)
     }
 
