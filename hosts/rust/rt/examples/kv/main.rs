@@ -242,6 +242,8 @@ fn main() -> Result<(), fairexec_rt::Error> {
     let server = Executor::builder().cores(count("--cores").unwrap_or(2)).pin(pin).journal(journal).stop_on_signals(Duration::from_secs(10));
     // Many requests go together in a long run, which only delays what has fewer shares.
     let server = server.queue("requests", 1000).slice(Duration::from_micros(100)).queue("compaction", 100).slice(background::slice());
+    // A task of the background looks this often for requests, and for calls and answers of other cores each time around.
+    let server = server.reactor_every(Duration::from_micros(8)).round(Duration::from_micros(4));
     let report = server.run(|here| run(here, port, idle, folder.clone(), fsync, background))?;
     eprintln!("kv: {} turns", report.cores.iter().map(|it| it.turns).sum::<u64>());
     Ok(())
