@@ -7,7 +7,6 @@ use Rattle.std.specs.contracts.impls.GlobalAllocator.TheImpl.{ghosts as its_allo
 use Rattle.std.below.core.specs.contracts.clone.Clone+copy.TheImpl.{ghosts as copied}
 use Rattle.base_jobs.specs.contracts.state.UnitCoreState.TheImpl.{ghosts as local}
 use Rattle.core_timeline.proofs.tree.Tree.TheLaws.TheKnot as tree
-use Rattle.actor_desk.proofs.trie.Trie.TheLaws.TheKnot as trie
 use Rattle.actor_desk.specs.contracts.lane.Lane.{the_row as lane}
 use Rattle.actor_desk.specs.contracts.shelf.Shelf.{the_row as shelf}
 use Rattle.note_journal.proofs.running.RunningJournal.TheSendSync as journal
@@ -34,7 +33,7 @@ core_send : IsSend (core job global u64-field.row unit-field.row task its_alloc 
 core_send = search (job_send, crosses, tree.crosses, sendable) depth 60 fits 20000
 
 shelf_send : IsSend (shelf job u64-field.row)
-shelf_send = search (job_send, crosses, trie.crosses, sendable) depth 60 fits 20000
+shelf_send = search (job_send, crosses, sendable) depth 60 fits 20000
 
 lane_send : IsSend (lane job u64-field.row unit-field.row task)
 lane_send = search (shelf_send, crosses, sendable) depth 60 fits 20000

@@ -1,9 +1,10 @@
 -- What is judged behind one more note.
-use Rattle.std.proofs.Common.{◌≡◌, ℕ, Bool, true, false, not, ◌||◌, if◌then◌else◌, Option, None, Some, [], ◌∷◌, refl, sym, ap, ◌∙◌, subst}
+use Rattle.std.proofs.Common.{◌≡◌, ◌<◌, ℕ, Bool, true, false, not, ◌||◌, if◌then◌else◌, Option, None, Some, [], ◌∷◌, refl, sym, ap, ◌∙◌, subst}
 use Rattle.std.proofs.lemmas.Bool.{true≢false}
 use Rattle.base_words.specs.Commands.{has_effect}
 use Rattle.base_words.specs.Journal.{EachNote, Journal}
 use Rattle.base_words.specs.Lawful.{MayStand}
+use Rattle.base_words.specs.Terms.{Terms}
 use Rattle.base_words.specs.declared.note.Note.{Note}
 use Rattle.base_words.specs.declared.note.Note.TheVariants.{Answered}
 use Rattle.judge_sink.specs.declared.links.Links.{Links}
@@ -26,6 +27,16 @@ awaited_left None (Answered name answer ∷ before) P may each = elim_answer (ha
 awaited_left None (note ∷ before) P may each = each
 awaited_left (Some (Answered name answer)) read P may each = subst (λ effect. EachNote P (if effect then read else Answered name answer ∷ read)) (sym may) each
 awaited_left (Some note) read P may each = absurd may
+
+-- a judge that was told no note
+pub judges_none : (terms : Terms) (links : Links) (table : Table) → terms.actor < terms.cores → terms.actor ≡ links.core → terms.cores ≡ links.cores → KnowsLinks links [] → KnowsTable terms table [] →
+    IsJudge (record { terms = terms; read = [] }) None links table false false [] true
+judges_none terms links table low core cores knows sent = record {
+  core_is = core;
+  cores_are = cores;
+  along = λ goes. record { again = refl; is_read = record { lawful = tt; may_wait = tt }; known = knows; sent = sent; whole = λ none. refl; step = refl };
+  right = record { core_in = low; lawful = tt; left = tt; links = tt; sent = tt; opening = tt };
+}
 
 module _ (old new : TwinView) (waited waits : Option (Note ℕ)) (links more : Links) (table kept : Table) (left half : Bool) (has : Journal ℕ) (note : Note ℕ) where
   -- what was read, and whether a note was left out, behind one more note

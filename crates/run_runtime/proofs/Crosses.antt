@@ -11,7 +11,6 @@ use Rattle.std.specs.contracts.alloc.Global.{the_row as global}
 use Rattle.std.specs.contracts.impls.GlobalAllocator.TheImpl.{ghosts as its_alloc}
 use Rattle.std.below.core.specs.contracts.clone.Clone+copy.TheImpl.{ghosts as copied}
 use Rattle.core_timeline.proofs.tree.Tree.TheLaws.TheKnot as tree
-use Rattle.actor_desk.proofs.trie.Trie.TheLaws.TheKnot as trie
 use Rattle.actor_desk.specs.contracts.lane.Lane.{the_row as lane}
 use Rattle.actor_desk.specs.contracts.shelf.Shelf.{the_row as shelf}
 use Rattle.note_journal.specs.declared.sink.Sink.{Ghosts as Passes}
@@ -32,7 +31,7 @@ module _ (T L : RattleType) (n : ℕ) (t : Ghosts (param 0 T).Denot ℕ (param n
   core_send = search (crosses, tree.crosses, sendable) depth 60 fits 20000
 
   shelf_send : IsSend (shelf (param 0 T) u64-field.row)
-  shelf_send = search (crosses, trie.crosses, sendable) depth 60 fits 20000
+  shelf_send = search (crosses, sendable) depth 60 fits 20000
 
   lane_send : IsSend (lane (param 0 T) u64-field.row (param n L) t)
   lane_send = search (shelf_send, crosses, sendable) depth 60 fits 20000
