@@ -265,6 +265,7 @@ impl<J: Task, A: Allocator + Clone> Core<J, A> {
     /// Settles the poll of the job that is out. If the job told no time of its own, `spent` nanoseconds count. A job that asks to be
     /// parked is, unless a wake of it is kept or its queue or the core hands back what is inside. The queue is charged, unless a turn is
     /// open: the end of the turn charges it.
+    #[inline(always)]
     pub fn settle(&mut self, ran: Ran<J>, spent: u64) -> (Settled<J::Out>, Notes<J::Out>)
     where
         J::Out: Copy,

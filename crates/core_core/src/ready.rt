@@ -35,6 +35,7 @@ pub(crate) fn enter<J: Drop, A: Allocator + Clone>(
 }
 
 /// Puts a queue that was placed into the timeline at this virtual runtime, unless its turn is open: the end of the turn does that.
+#[inline(always)]
 pub(crate) fn enter_placed<J: Drop, A: Allocator + Clone>(
     queues: &mut Queues<J, A>,
     ready: &mut Timeline<A>,

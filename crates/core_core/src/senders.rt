@@ -87,11 +87,17 @@ impl<A: Allocator> Senders<A> {
     }
 
     /// Counts a delivery.
+    #[inline(always)]
     pub(crate) fn count(&mut self, sender: usize, number: u64)
         requires { sender < length self.old.delivered }
         ensures { self.new ≡ record self.old { delivered = slice_set self.old.delivered sender number } }
     {
         let was = self.senders[sender];
+        if was.gate.is_none() {
+            // Whose gate is open is awaited as before.
+            self.senders[sender].delivered = number;
+            return;
+        }
         let is = Sender {
             delivered: number,
             gate: was.gate,
@@ -113,6 +119,7 @@ impl<A: Allocator> Senders<A> {
     }
 
     /// Writes what is known of this sender, and counts anew who is awaited.
+    #[inline(never)]
     fn put(&mut self, sender: usize, is: Sender)
         requires { sender < length self.old.delivered }
         ensures { self.new ≡ record { delivered = slice_set self.old.delivered sender is.delivered; gates = slice_set self.old.gates sender is.gate } }

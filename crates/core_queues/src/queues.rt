@@ -24,6 +24,7 @@ use core_timeline::Slip;
 use slab::Slab;
 use std::alloc::{AllocError, Allocator};
 use std::marker::Model;
+use std::mem;
 
 mod fronts;
 mod parks;
@@ -198,10 +199,17 @@ impl<J: Drop, A: Allocator + Clone> Queues<J, A> {
             tail: line.tail,
             count: line.count - 1,
         };
-        Some((front.name, front.started, front.woken, front.job))
+        // Field by field: bytes that lie between them would go through memory, and wait there.
+        let name = JobId {
+            from: front.name.from,
+            to: front.name.to,
+            number: front.name.number,
+        };
+        Some((name, front.started, front.woken, front.job))
     }
 
     /// A job that was started joins the tail again, with the wake that is kept beside it, if one is.
+    #[inline(always)]
     pub fn push_back(&mut self, queue: QueueNo, name: JobId, woken: bool, job: J)
         requires exists { queue < queue_count self.old }
         requires room { held_count self.old < self.old.room }
@@ -292,13 +300,15 @@ impl<J: Drop, A: Allocator + Clone> Queues<J, A> {
     }
 
     /// Takes the slip of its queue back.
+    #[inline(always)]
     pub fn put_slip(&mut self, slip: Slip<A>)
         requires exists { slip < queue_count self.old }
         requires out { has_slip slip self.old ≡ false }
         ensures { self.new ≡ with_slip slip self.old }
     {
         let place = slip.queue().0 as usize;
-        self.slips.at[place] = Some(slip);
+        // None was there. A drop would look, once a turn.
+        mem::forget(mem::replace(&mut self.slips.at[place], Some(slip)));
     }
 }
 
@@ -316,7 +326,12 @@ impl<J: Drop, A: Allocator + Clone> Queues<J, A> {
         let line = self.lines[place].waiting;
         let last = Waiting {
             next: 0,
-            name,
+            // Field by field, as in `pop_front`.
+            name: JobId {
+                from: name.from,
+                to: name.to,
+                number: name.number,
+            },
             job,
             started,
             woken,

@@ -58,6 +58,7 @@ impl Hosted {
     }
 
     /// Delivers an order of the host.
+    #[inline(always)]
     pub(crate) fn hand_in(&mut self, order: Order<HostJob>) -> Delivered<HostJob>
         requires room { inside_count self.old < self.old.queues.room }
         requires left { delivered_of 1 self.old < 2 ^ 64 - 1 }
@@ -122,6 +123,7 @@ impl Hosted {
     }
 
     /// Settles the run that the host made of the job that is out. It took `spent` nanoseconds.
+    #[inline(always)]
     pub fn settle(&mut self, step: u32, spent: u64) -> Code
         ensures { SettlesStep self.old (step_of step) spent result self.new }
     {

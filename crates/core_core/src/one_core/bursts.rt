@@ -157,12 +157,7 @@ impl<J: Task, A: Allocator + Clone> Core<J, A> {
         let again = turn.polled_again();
         self.bursts.open = Some(again);
         let as_it_was = Snapshot::of(&job);
-        // Field by field: bytes that lie between them would go through memory, and wait there.
-        let named = JobId {
-            from: name.from,
-            to: name.to,
-            number: name.number,
-        };
+        let named = name;
         self.out = Some(Out {
             name,
             queue,

@@ -92,6 +92,7 @@ impl<J: Task, A: Allocator + Clone> Core<J, A> {
     }
 
     /// Why a job that is delivered to this queue goes back, if it does.
+    #[inline(always)]
     pub(super) fn refusal(&self, queue: QueueNo) -> Option<Reason>
         ensures { result ≡ spec.refusal queue self.now }
     {

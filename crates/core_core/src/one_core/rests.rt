@@ -33,6 +33,7 @@ impl<J: Task, A: Allocator + Clone> Core<J, A> {
     }
 
     /// The job that was out asks to be parked: it is, or goes to the tail of its queue and uses up the wake that is kept.
+    #[inline(always)]
     pub(super) fn rest_out(&mut self, job: J, time: u64) -> (Settled<J::Out>, Notes<J::Out>)
     where
         J::Out: Copy,

@@ -13,6 +13,7 @@ use std::alloc::Allocator;
 
 impl<J: Task, A: Allocator + Clone> Core<J, A> {
     /// The job that was out goes to the tail of its queue, with a wake that is kept or with none.
+    #[inline(always)]
     pub(super) fn rejoin_out(&mut self, job: J, time: u64, woken: bool) -> JobId
         requires out { IsSome self.old.out }
         requires ready { IsReady J.meaning job }
@@ -26,6 +27,7 @@ impl<J: Task, A: Allocator + Clone> Core<J, A> {
     }
 
     /// It does so where its poll ends its turn: the queue is charged, and may be picked again.
+    #[inline(always)]
     fn rejoin_charged(&mut self, job: J, time: u64, woken: bool) -> JobId
         requires out { IsSome self.old.out }
         requires no_turn { self.old.bursts.open ≡ None }
@@ -64,6 +66,7 @@ impl<J: Task, A: Allocator + Clone> Core<J, A> {
     }
 
     /// The job that was out is parked.
+    #[inline(never)]
     pub(super) fn park_out(&mut self, job: J, time: u64) -> JobId
         requires out { IsSome self.old.out }
         requires ready { IsReady J.meaning job }
@@ -118,6 +121,7 @@ impl<J: Task, A: Allocator + Clone> Core<J, A> {
     }
 
     /// The job that was out is done.
+    #[inline(always)]
     pub(super) fn finish_out(&mut self, time: u64) -> JobId
         requires { IsSome self.old.out }
         ensures finishes { FinishesOut self.old result time self.new }
@@ -130,6 +134,7 @@ impl<J: Task, A: Allocator + Clone> Core<J, A> {
     }
 
     /// It is so where its poll ends its turn: the queue is charged, and may be picked again if another job waits in it.
+    #[inline(always)]
     fn finish_charged(&mut self, time: u64) -> JobId
         requires out { IsSome self.old.out }
         requires no_turn { self.old.bursts.open ≡ None }
