@@ -20,6 +20,7 @@ pub mod InTurn
 pub mod WholeTurn
 pub mod FurtherTurn
 pub mod SettledInTurn
+pub mod HeldQueue
 pub mod Turned
 pub mod AheadTaken
 pub mod Entered

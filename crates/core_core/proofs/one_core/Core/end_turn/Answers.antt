@@ -1,13 +1,11 @@
-use Rattle.core_core.proofs.Names.{ap, arith, core_view, CoreView, false, FitsTurns, IfSome, is_some, job_out, length, may_go_on, None, number_if, OpenTurn, Option, queue_count, queues_alone, refl, runtime_listed, slice_index_or, slice_set}
-use Rattle.core_core.proofs.Names.{subst, sym, Tally, tally_of, true, true≢false, unsettled_count, ℕ, ◌<◌, ◌∙◌, ◌≡◌}
-use Rattle.core_core.proofs.Charging.{tally_read}
+use Rattle.core_core.proofs.Names.{ap, arith, core_view, CoreView, false, IfSome, job_out, may_go_on, None, OpenTurn, Option, queues_alone, refl, slice_set}
+use Rattle.core_core.proofs.Names.{subst, sym, Tally, tally_of, true≢false, ◌∙◌, ◌≡◌}
 use Rattle.core_core.proofs.Fits.{IsBounded-from_turns}
 use Rattle.core_core.proofs.FurtherTurn.{turn_exists}
 use Rattle.core_core.proofs.Held.{held_turn}
-use Rattle.core_core.proofs.Listed.{LacksQueue-from_none}
+use Rattle.core_core.proofs.HeldQueue.{KnowsHeld, knows_held}
 use Rattle.core_core.proofs.SettledInTurn.{after_end, IsCore-turn_ended}
-use Rattle.core_core.proofs.Settling.{held_entry_at}
-use Rattle.core_core.proofs.SlipsKept.{slip_there, slip_again}
+use Rattle.core_core.proofs.SlipsKept.{slip_again}
 use Rattle.core_core.proofs.one_core.Core.end_turn.Given.{Over}
 use Rattle.core_core.proofs.one_core.Core.end_turn.Goals as goal
 use Rattle.core_core.proofs.one_core.Core.end_turn.Goals.{In-Some}
@@ -22,64 +20,46 @@ old_of g c =
 free : (g : Over) (c : In-Some g) → job_out c.self.inside.out ≡ None
 free g c = subst (λ (view : CoreView g.row.J.Denot). view.out ≡ None) (sym c.self.view_is) c.requires.free
 
--- the queue of the open turn exists, isn't listed, and has its slip
-exists : (g : Over) (c : In-Some g) → c.in-Some.turn.queue < queue_count (queues_alone c.self.inside.queues)
-exists g c = turn_exists g.J.Task.meaning (old_of g c) c.self.inside.queues.slips c.self.inside.ready.keys c.self.inside.inside c.self.inside.room c.self.inside.tallies.cap c.in-Some.turn c.self.invariant c.in-Some.is
-
-not_listed : (g : Over) (c : In-Some g) → runtime_listed c.in-Some.turn.queue c.self.inside.ready.keys ≡ None
-not_listed g c = c.self.invariant.listed.at c.in-Some.turn.queue ∙ held_entry_at (old_of g c) c.in-Some.turn.queue (held_turn (old_of g c) c.in-Some.turn (free g c) c.in-Some.is)
-
-there : (g : Over) (c : In-Some g) → slice_index_or c.self.inside.queues.slips c.in-Some.turn.queue false ≡ true
-there g c = slip_there _ _ c.self.inside.ready.keys c.in-Some.turn.queue (exists g c) (not_listed g c) c.self.invariant.slipped
-
--- what is read of its tally
-read : (g : Over) (c : In-Some g) (place : ℕ) → place ≡ c.in-Some.turn.queue → (was : Tally) → was ≡ slice_index_or c.self.inside.tallies.items place was → was ≡ tally_of c.in-Some.turn.queue (old_of g c)
-read g c place at was found =
-    let within : place < length c.self.inside.tallies.items = omega (arith, at, c.self.invariant.counted.tallies, exists g c) in
-    tally_read c.self.inside.tallies.items place c.in-Some.turn.queue was at within found
-
--- it fits the turns but the one that is open
-before : (g : Over) (c : In-Some g) (place : ℕ) → place ≡ c.in-Some.turn.queue → (was : Tally) → was ≡ slice_index_or c.self.inside.tallies.items place was → FitsTurns c.self.inside.turns 1 was
-before g c place at was found =
-    let core = c.self.invariant in
-    let within : place < length c.self.inside.tallies.items = omega (arith, at, core.counted.tallies, exists g c) in
-    let one : unsettled_count (old_of g c) ≡ 1 = ap (λ (held : Option ℕ). number_if (is_some held)) (held_turn (old_of g c) c.in-Some.turn (free g c) c.in-Some.is) in
-    subst (FitsTurns c.self.inside.turns 1) (sym found) (subst (λ polls. FitsTurns c.self.inside.turns polls (slice_index_or c.self.inside.tallies.items place was)) one (core.turns.tallies place was within))
+-- what is known of the queue of the open turn
+known : (g : Over) (c : In-Some g) → KnowsHeld (old_of g c) c.self.inside.queues.slips c.self.inside.ready.keys c.in-Some.turn.queue
+known g c =
+    let exists = turn_exists g.J.Task.meaning (old_of g c) _ _ _ _ _ c.in-Some.turn c.self.invariant c.in-Some.is in
+    knows_held g.J.Task.meaning (old_of g c) _ _ _ _ _ c.in-Some.turn.queue c.self.invariant (held_turn (old_of g c) c.in-Some.turn (free g c) c.in-Some.is) exists
 
 pub shares-shares-requires : goal.shares-shares-requires
-shares-shares-requires g c = record { exists = exists g (goal.at.shares-shares-requires g c).In-Some }
+shares-shares-requires g c = record { exists = (known g (goal.at.shares-shares-requires g c).In-Some).exists }
 
 pub index-requires : goal.index-requires
-index-requires g c = omega (arith, c.self.invariant.counted.tallies, exists g (goal.at.index-requires g c).In-Some, c.place.ensures)
+index-requires g c = omega (arith, c.self.invariant.counted.tallies, (known g (goal.at.index-requires g c).In-Some).exists, c.place.ensures)
 
 pub index_mut-requires : goal.index_mut-requires
-index_mut-requires g c = omega (arith, c.self.invariant.counted.tallies, exists g (goal.at.index_mut-requires g c).In-Some, c.place-2.ensures)
+index_mut-requires g c = omega (arith, c.self.invariant.counted.tallies, (known g (goal.at.index_mut-requires g c).In-Some).exists, c.place-2.ensures)
 
 pub costing-tally-requires : goal.costing-tally-requires
 costing-tally-requires g c =
-    let fits = before g (goal.at.costing-tally-requires g c).In-Some c.place.result c.place.ensures c.index.result.now c.index.ensures in
+    let fits = (known g (goal.at.costing-tally-requires g c).In-Some).before c.place.result c.place.ensures c.index.result.now c.index.ensures in
     record {
       runtime = omega (arith, fits.runtime, c.self.ranges);
       time = omega (arith, fits.time, c.self.ranges);
     }
 
 pub take_slip-requires : goal.take_slip-requires
-take_slip-requires g c = record { exists = exists g (goal.at.take_slip-requires g c).In-Some }
+take_slip-requires g c = record { exists = (known g (goal.at.take_slip-requires g c).In-Some).exists }
 
 pub one_note-requires : goal.one_note-requires
 one_note-requires g c = assumption
 
 pub unreachable-requires-in_default-take_slip : goal.unreachable-requires-in_default-take_slip
 unreachable-requires-in_default-take_slip g c =
-    true≢false (sym (there g (goal.at.unreachable-requires-in_default-take_slip g c).In-Some) ∙ sym c.in_default-take_slip.ensures.there)
+    true≢false (sym (known g (goal.at.unreachable-requires-in_default-take_slip g c).In-Some).there ∙ sym c.in_default-take_slip.ensures.there)
 
 pub relist-requires : goal.relist-requires
 relist-requires g c =
     let at = (goal.at.relist-requires g c).In-Some in
     rw c.in-Some-take_slip.ensures.own (record {
-      exists = rw c.take_slip.ensures.given (exists g at);
+      exists = rw c.take_slip.ensures.given (known g at).exists;
       out = c.take_slip.ensures.out;
-      absent = LacksQueue-from_none c.in-Some.turn.queue c.self.inside.ready.keys (not_listed g at);
+      absent = (known g at).absent;
     })
 
 pub invariant_of-self : goal.invariant_of-self
@@ -88,11 +68,11 @@ invariant_of-self g c =
     let inside = c.self.inside in
     let turn = c.in-Some.turn in
     let cost = c.costing-tally.ensures in
-    let known = read g at c.place.result c.place.ensures c.index.result.now c.index.ensures in
-    let back = slip_again inside.queues.slips turn.queue (there g at) in
+    let was = (known g at).read c.place.result c.place.ensures c.index.result.now c.index.ensures in
+    let back = slip_again inside.queues.slips turn.queue (known g at).there in
     rw (c.relist.ensures.keys, c.relist.ensures.slips, c.in-Some-take_slip.ensures.own, c.take_slip.ensures.given, back, c.place-2.ensures)
     (IsCore-turn_ended g.J.Task.meaning (old_of g at) inside.queues.slips inside.ready.keys inside.inside inside.room inside.tallies.cap c.self.invariant turn c.costing-tally.result c.shares-shares.result c.in-Some.is (free g at)
-    (cost.value ∙ ap (λ (one : Tally). after_end one turn.time c.shares-shares.result) known) (omega (arith, cost.charge, ap (λ (one : Tally). one.runtime) known)) (omega (arith, cost.clamped, ap (λ (one : Tally). one.time) known)))
+    (cost.value ∙ ap (λ (one : Tally). after_end one turn.time c.shares-shares.result) was) (omega (arith, cost.charge, ap (λ (one : Tally). one.runtime) was)) (omega (arith, cost.clamped, ap (λ (one : Tally). one.time) was)))
 
 pub returns-clause-ends : goal.returns-clause-ends
 returns-clause-ends g c =
@@ -100,10 +80,10 @@ returns-clause-ends g c =
     let inside = c.self.inside in
     let turn = c.in-Some.turn in
     let cost = c.costing-tally.ensures in
-    let known = read g at c.place.result c.place.ensures c.index.result.now c.index.ensures in
+    let was = (known g at).read c.place.result c.place.ensures c.index.result.now c.index.ensures in
     let over = subst (λ (view : CoreView g.row.J.Denot). IfSome view.bursts.open (λ (one : OpenTurn). may_go_on view one ≡ false)) (sym c.self.view_is) c.requires.over in
     let written = ap (λ place. slice_set inside.tallies.items place c.costing-tally.result) c.place-2.ensures
-    ∙ ap (slice_set inside.tallies.items turn.queue) (cost.value ∙ ap (λ (one : Tally). after_end one turn.time c.shares-shares.result) known ∙ ap (after_end (tally_of turn.queue (old_of g at)) turn.time) c.shares-shares.ensures) in
+    ∙ ap (slice_set inside.tallies.items turn.queue) (cost.value ∙ ap (λ (one : Tally). after_end one turn.time c.shares-shares.result) was ∙ ap (after_end (tally_of turn.queue (old_of g at)) turn.time) c.shares-shares.ensures) in
     rw (← c.self.view_is, c.relist.ensures.slips, c.take_slip.ensures.given) (record {
       turn = turn;
       was_open = c.in-Some.is;
@@ -120,7 +100,7 @@ returns-clause-bounded g c =
     let inside = c.self.inside in
     let turn = c.in-Some.turn in
     let cost = c.costing-tally.ensures in
-    let known = read g at c.place.result c.place.ensures c.index.result.now c.index.ensures in
+    let was = (known g at).read c.place.result c.place.ensures c.index.result.now c.index.ensures in
     let core = IsCore-turn_ended g.J.Task.meaning (old_of g at) inside.queues.slips inside.ready.keys inside.inside inside.room inside.tallies.cap c.self.invariant turn c.costing-tally.result c.shares-shares.result c.in-Some.is (free g at)
-    (cost.value ∙ ap (λ (one : Tally). after_end one turn.time c.shares-shares.result) known) (omega (arith, cost.charge, ap (λ (one : Tally). one.runtime) known)) (omega (arith, cost.clamped, ap (λ (one : Tally). one.time) known)) in
+    (cost.value ∙ ap (λ (one : Tally). after_end one turn.time c.shares-shares.result) was) (omega (arith, cost.charge, ap (λ (one : Tally). one.runtime) was)) (omega (arith, cost.clamped, ap (λ (one : Tally). one.time) was)) in
     rw c.place-2.ensures (IsBounded-from_turns _ core.turns)

@@ -1,12 +1,9 @@
-use Rattle.core_core.proofs.Names.{ap, arith, Bool, core_view, CoreView, false, FitsTurns, is_any, IsCore, IsOutOf, job_out, keys_after, None, queue_count, queues_alone, refl, runtime_listed, slice_index_or, slice_set, slips_after, subst}
-use Rattle.core_core.proofs.Names.{sym, true, waiting_of, ℕ, ◌<◌, ◌∙◌, ◌≡◌}
+use Rattle.core_core.proofs.Names.{ap, arith, Bool, core_view, CoreView, FitsTurns, is_any, IsCore, IsOutOf, job_out, keys_after, None, queues_alone, refl, slice_set, slips_after, subst}
+use Rattle.core_core.proofs.Names.{sym, waiting_of, ℕ, ◌∙◌}
 use Rattle.std.specs.Prelude.{◌-◌}
-use Rattle.core_core.proofs.Counting.{some_inside}
-use Rattle.core_core.proofs.Entries.{entry_of}
 use Rattle.core_core.proofs.Fits.{IsBounded-from_turns}
-use Rattle.core_core.proofs.Listed.{LacksQueue-from_none}
-use Rattle.core_core.proofs.Settling.{out_entry}
-use Rattle.core_core.proofs.SlipsKept.{slip_there, slip_again}
+use Rattle.core_core.proofs.SlipsKept.{slip_again}
+use Rattle.core_core.proofs.HeldQueue.{KnowsHeld, knows_out}
 use Rattle.core_core.proofs.Whole.{IsCore-ended}
 use Rattle.core_core.proofs.one_core.Core.let_go.Given.{Over}
 use Rattle.core_core.proofs.one_core.Core.let_go.Goals as goal
@@ -22,33 +19,25 @@ old_of g c =
 out_of : (g : Over) (c : After-place g) → IsOutOf (old_of g c) c.args.queue
 out_of g c = subst (λ (view : CoreView g.row.J.Denot). IsOutOf view c.args.queue) (sym c.self.view_is) c.requires.out
 
-exists : (g : Over) (c : After-place g) → c.args.queue < queue_count (queues_alone c.self.inside.queues)
-exists g c =
+-- what is known of the queue
+known : (g : Over) (c : After-place g) → KnowsHeld (old_of g c) c.self.inside.queues.slips c.self.inside.ready.keys c.args.queue
+known g c =
     let out = out_of g c in
-    let there = some_inside (old_of g c) c.self.inside.inside c.self.inside.room c.self.inside.tallies.cap out.0 out.1 c.self.invariant.counted in
-    omega (arith, there.1, out.2)
-
-not_listed : (g : Over) (c : After-place g) → runtime_listed c.args.queue c.self.inside.ready.keys ≡ None
-not_listed g c =
-    let out = out_of g c in
-    c.self.invariant.listed.at c.args.queue ∙ subst (λ (queue : ℕ). entry_of (old_of g c) queue ≡ None) (sym out.2) (out_entry (old_of g c) out.0 out.1)
-
-there : (g : Over) (c : After-place g) → slice_index_or c.self.inside.queues.slips c.args.queue false ≡ true
-there g c = slip_there _ _ c.self.inside.ready.keys c.args.queue (exists g c) (not_listed g c) c.self.invariant.slipped
+    subst (KnowsHeld (old_of g c) _ _) (sym out.2) (knows_out g.J.Task.meaning (old_of g c) _ _ _ _ _ out.0 c.self.invariant out.1)
 
 pub index_mut-requires : goal.index_mut-requires
-index_mut-requires g c = omega (arith, c.self.invariant.counted.tallies, exists g (goal.at.index_mut-requires g c).After-place, c.place.ensures)
+index_mut-requires g c = omega (arith, c.self.invariant.counted.tallies, (known g (goal.at.index_mut-requires g c).After-place).exists, c.place.ensures)
 
 pub take_slip-requires : goal.take_slip-requires
-take_slip-requires g c = record { exists = exists g (goal.at.take_slip-requires g c).After-place }
+take_slip-requires g c = record { exists = (known g (goal.at.take_slip-requires g c).After-place).exists }
 
 pub relist-requires : goal.relist-requires
 relist-requires g c =
     let at = (goal.at.relist-requires g c).After-place in
     rw c.in-Some.ensures.own (record {
-      exists = rw c.take_slip.ensures.given (exists g at);
+      exists = rw c.take_slip.ensures.given (known g at).exists;
       out = c.take_slip.ensures.out;
-      absent = LacksQueue-from_none c.args.queue c.self.inside.ready.keys (not_listed g at);
+      absent = (known g at).absent;
     })
 
 -- the core from then on
@@ -73,7 +62,7 @@ core_of g c =
 
 pub invariant_of-self : goal.invariant_of-self
 invariant_of-self g c =
-    let back = slip_again c.self.inside.queues.slips c.args.queue (there g (goal.at.invariant_of-self g c).After-place) in
+    let back = slip_again c.self.inside.queues.slips c.args.queue (known g (goal.at.invariant_of-self g c).After-place).there in
     rw (c.relist.ensures.keys, c.relist.ensures.slips, c.in-Some.ensures.own, c.take_slip.ensures.given, back) (core_of g c)
 
 pub returns : goal.returns
