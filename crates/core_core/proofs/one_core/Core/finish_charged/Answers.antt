@@ -1,5 +1,5 @@
-use Rattle.core_core.proofs.Names.{ap, arith, core_view, CoreView, job_out, lasted, length, List, no_tally, None, queues_alone, shares_of, slice_index_or, slice_set, subst, sym, Tally, ◌<◌, ◌∙◌, ◌≡◌}
-use Rattle.core_core.proofs.Charging.{charge_written, charged_single}
+use Rattle.core_core.proofs.Names.{ap, arith, core_view, CoreView, job_out, lasted, length, List, None, queues_alone, shares_of, slice_index_or, subst, sym, Tally, ◌<◌, ◌∙◌, ◌≡◌}
+use Rattle.core_core.proofs.Charging.{charge_written}
 use Rattle.core_core.proofs.Counting.{some_inside}
 use Rattle.core_core.proofs.one_core.Core.finish_charged.Goals as goal
 
@@ -18,9 +18,8 @@ returns-clause-finishes g c =
     let read = subst (λ (tallies : List Tally). was ≡ slice_index_or tallies c.place.result was) tallies_are c.index.ensures in
     let queue = c.who_is_out-name.result.1 in
     let shares = c.shares-shares.ensures ∙ ap (λ (v : CoreView g.row.J.Denot). shares_of queue v.queues) c.self.view_is ∙ ap (λ number. shares_of number old.queues) who.3 in
-    let written = charge_written old.tallies c.place.result queue out.queue was c.charged-tally.result c.args.time c.shares-shares.result (shares_of out.queue old.queues) 1
-    (c.place.ensures ∙ who.3) who.3 within read c.charged-tally.ensures.value shares
-    ∙ ap (slice_set old.tallies out.queue) (charged_single old.bursts.open c.args.time (shares_of out.queue old.queues) 1 (slice_index_or old.tallies out.queue no_tally) c.requires.no_turn) in
+    let written = charge_written old.tallies c.place.result queue out.queue was c.charged-tally.result old.bursts.open c.args.time c.shares-shares.result (shares_of out.queue old.queues) 1
+    (c.place.ensures ∙ who.3) who.3 within read c.charged-tally.ensures.value shares c.requires.no_turn in
     record {
       out = out;
       was_out = who.1;

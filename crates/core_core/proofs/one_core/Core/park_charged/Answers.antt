@@ -1,7 +1,7 @@
-use Rattle.core_core.proofs.Names.{ap, arith, core_view, CoreView, is_any, is_some, IsCore, job_out, JobOut, keys_after, length, no_tally, None, number_if, Option, out_count, queues_alone, refl}
-use Rattle.core_core.proofs.Names.{shares_of, slice_index_or, slice_set, slips_after, Some, subst, sym, waiting_of, ◌<◌, ◌∙◌, ◌≡◌}
+use Rattle.core_core.proofs.Names.{ap, arith, core_view, CoreView, is_any, is_some, IsCore, job_out, JobOut, keys_after, length, None, number_if, Option, out_count, queues_alone, refl}
+use Rattle.core_core.proofs.Names.{shares_of, slice_set, slips_after, Some, subst, sym, waiting_of, ◌<◌, ◌∙◌, ◌≡◌}
 use Rattle.core_core.proofs.Fits.{IsBounded-from_turns}
-use Rattle.core_core.proofs.Charging.{charge_written, charge_fits, charged_single, lasted_single}
+use Rattle.core_core.proofs.Charging.{charge_written, charge_fits, lasted_single}
 use Rattle.core_core.proofs.SlipsKept.{slip_again}
 use Rattle.core_core.proofs.HeldQueue.{KnowsHeld, knows_out}
 use Rattle.core_core.proofs.Whole.{IsCore-parked}
@@ -98,9 +98,8 @@ returns g c =
     let free : job_out c.take.new.self ≡ None = ap job_out c.take.ensures.after in
     let no_turn : inside.bursts.open ≡ None = subst (λ (view : CoreView g.row.J.Denot). view.bursts.open ≡ None) (sym c.self.view_is) c.requires.no_turn in
     let here : c.place.result < length inside.tallies.items = omega (arith, c.self.invariant.counted.tallies, (known g at).exists, c.place.ensures) in
-    let written = charge_written inside.tallies.items c.place.result c.place-2.result queue c.index.result.now c.charged-tally.result c.args.time c.shares-shares.result (shares_of queue (queues_alone inside.queues)) 0
-    c.place.ensures c.place-2.ensures here c.index.ensures c.charged-tally.ensures.value c.shares-shares.ensures
-    ∙ ap (slice_set inside.tallies.items queue) (charged_single inside.bursts.open c.args.time (shares_of queue (queues_alone inside.queues)) 0 (slice_index_or inside.tallies.items queue no_tally) no_turn) in
+    let written = charge_written inside.tallies.items c.place.result c.place-2.result queue c.index.result.now c.charged-tally.result inside.bursts.open c.args.time c.shares-shares.result (shares_of queue (queues_alone inside.queues)) 0
+    c.place.ensures c.place-2.ensures here c.index.ensures c.charged-tally.ensures.value c.shares-shares.ensures no_turn in
     let bursts = lasted_single inside.bursts c.args.time no_turn in
     rw (← c.self.view_is, c.relist.ensures.slips, c.take_slip.ensures.given) (record {
       parks = record {
