@@ -1,4 +1,4 @@
-use Rattle.core_core.proofs.Names.{Delivers, HasReadyJob, subst, sym}
+use Rattle.core_core.proofs.Names.{HasReadyJob, subst}
 use Rattle.core_core.proofs.one_core.Core.deliver.Goals as goal
 
 pub deliver_noted-requires : goal.deliver_noted-requires
@@ -16,53 +16,23 @@ deliver_close-requires g c = (assumption, c.requires.sender)
 pub deliver_close_core-requires : goal.deliver_close_core-requires
 deliver_close_core-requires g c = (assumption, c.requires.sender)
 
-pub returns-in-Job-clause-delivers : goal.returns-in-Job-clause-delivers
-returns-in-Job-clause-delivers g c =
-    let done = c.deliver_noted in
-    subst (λ order. Delivers c.args.self.now c.args.envelope.name order done.result.0 done.new.self done.result.1.items) (sym c.in-Job.is) done.ensures.delivers
-
-pub returns-in-Job-clause-bounded : goal.returns-in-Job-clause-bounded
-returns-in-Job-clause-bounded g c = c.deliver_noted.ensures.bounded
-
-pub returns-in-Create-clause-delivers : goal.returns-in-Create-clause-delivers
-returns-in-Create-clause-delivers g c =
-    let done = c.deliver_create in
-    subst (λ order. Delivers c.args.self.now c.args.envelope.name order done.result.0 done.new.self done.result.1.items) (sym c.in-Create.is) done.ensures.delivers
-
-pub returns-in-Create-clause-bounded : goal.returns-in-Create-clause-bounded
-returns-in-Create-clause-bounded g c = c.deliver_create.ensures.bounded
-
-pub returns-in-SetShares-clause-delivers : goal.returns-in-SetShares-clause-delivers
-returns-in-SetShares-clause-delivers g c =
-    let done = c.deliver_shares in
-    subst (λ order. Delivers c.args.self.now c.args.envelope.name order done.result.0 done.new.self done.result.1.items) (sym c.in-SetShares.is) done.ensures.delivers
-
-pub returns-in-SetShares-clause-bounded : goal.returns-in-SetShares-clause-bounded
-returns-in-SetShares-clause-bounded g c = c.deliver_shares.ensures.bounded
-
-pub returns-in-Close-clause-delivers : goal.returns-in-Close-clause-delivers
-returns-in-Close-clause-delivers g c =
-    let done = c.deliver_close in
-    subst (λ order. Delivers c.args.self.now c.args.envelope.name order done.result.0 done.new.self done.result.1.items) (sym c.in-Close.is) done.ensures.delivers
-
-pub returns-in-Close-clause-bounded : goal.returns-in-Close-clause-bounded
-returns-in-Close-clause-bounded g c = c.deliver_close.ensures.bounded
-
-pub returns-in-CloseCore-clause-delivers : goal.returns-in-CloseCore-clause-delivers
-returns-in-CloseCore-clause-delivers g c =
-    let done = c.deliver_close_core in
-    subst (λ order. Delivers c.args.self.now c.args.envelope.name order done.result.0 done.new.self done.result.1.items) (sym c.in-CloseCore.is) done.ensures.delivers
-
-pub returns-in-CloseCore-clause-bounded : goal.returns-in-CloseCore-clause-bounded
-returns-in-CloseCore-clause-bounded g c = c.deliver_close_core.ensures.bounded
-
 pub deliver_wake-requires : goal.deliver_wake-requires
 deliver_wake-requires g c = (assumption, c.requires.sender)
 
-pub returns-in-Wake-clause-delivers : goal.returns-in-Wake-clause-delivers
-returns-in-Wake-clause-delivers g c =
-    let done = c.deliver_wake in
-    subst (λ order. Delivers c.args.self.now c.args.envelope.name order done.result.0 done.new.self done.result.1.items) (sym c.in-Wake.is) done.ensures.delivers
+pub returns-in-Job : goal.returns-in-Job
+returns-in-Job g c = record { delivers = rw c.in-Job.is c.deliver_noted.ensures.delivers; bounded = c.deliver_noted.ensures.bounded }
 
-pub returns-in-Wake-clause-bounded : goal.returns-in-Wake-clause-bounded
-returns-in-Wake-clause-bounded g c = c.deliver_wake.ensures.bounded
+pub returns-in-Create : goal.returns-in-Create
+returns-in-Create g c = record { delivers = rw c.in-Create.is c.deliver_create.ensures.delivers; bounded = c.deliver_create.ensures.bounded }
+
+pub returns-in-SetShares : goal.returns-in-SetShares
+returns-in-SetShares g c = record { delivers = rw c.in-SetShares.is c.deliver_shares.ensures.delivers; bounded = c.deliver_shares.ensures.bounded }
+
+pub returns-in-Close : goal.returns-in-Close
+returns-in-Close g c = record { delivers = rw c.in-Close.is c.deliver_close.ensures.delivers; bounded = c.deliver_close.ensures.bounded }
+
+pub returns-in-CloseCore : goal.returns-in-CloseCore
+returns-in-CloseCore g c = record { delivers = rw c.in-CloseCore.is c.deliver_close_core.ensures.delivers; bounded = c.deliver_close_core.ensures.bounded }
+
+pub returns-in-Wake : goal.returns-in-Wake
+returns-in-Wake g c = record { delivers = rw c.in-Wake.is c.deliver_wake.ensures.delivers; bounded = c.deliver_wake.ensures.bounded }
