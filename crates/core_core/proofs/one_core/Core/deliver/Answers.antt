@@ -1,23 +1,4 @@
-use Rattle.core_core.proofs.Names.{HasReadyJob, subst}
 use Rattle.core_core.proofs.one_core.Core.deliver.Goals as goal
-
-pub deliver_noted-requires : goal.deliver_noted-requires
-deliver_noted-requires g c = (assumption, (c.requires.room, (c.requires.sender, (c.requires.next, subst (HasReadyJob g.J.Task.meaning) c.in-Job.is c.requires.ready))))
-
-pub deliver_create-requires : goal.deliver_create-requires
-deliver_create-requires g c = (assumption, c.requires.sender)
-
-pub deliver_shares-requires : goal.deliver_shares-requires
-deliver_shares-requires g c = (assumption, c.requires.sender)
-
-pub deliver_close-requires : goal.deliver_close-requires
-deliver_close-requires g c = (assumption, c.requires.sender)
-
-pub deliver_close_core-requires : goal.deliver_close_core-requires
-deliver_close_core-requires g c = (assumption, c.requires.sender)
-
-pub deliver_wake-requires : goal.deliver_wake-requires
-deliver_wake-requires g c = (assumption, c.requires.sender)
 
 pub returns-in-Job : goal.returns-in-Job
 returns-in-Job g c = record { delivers = rw c.in-Job.is c.deliver_noted.ensures.delivers; bounded = c.deliver_noted.ensures.bounded }
