@@ -1,9 +1,7 @@
 use Rattle.core_core.proofs.Names.{ap, arith, core_view, CoreView, false, IfSome, job_out, may_go_on, None, OpenTurn, Option, queues_alone, refl, slice_set}
 use Rattle.core_core.proofs.Names.{subst, sym, Tally, tally_of, true≢false, ◌∙◌, ◌≡◌}
 use Rattle.core_core.proofs.Fits.{IsBounded-from_turns}
-use Rattle.core_core.proofs.FurtherTurn.{turn_exists}
-use Rattle.core_core.proofs.Held.{held_turn}
-use Rattle.core_core.proofs.HeldQueue.{KnowsHeld, knows_held}
+use Rattle.core_core.proofs.HeldQueue.{KnowsHeld, knows_turn}
 use Rattle.core_core.proofs.SettledInTurn.{after_end, IsCore-turn_ended}
 use Rattle.core_core.proofs.SlipsKept.{slip_again}
 use Rattle.core_core.proofs.one_core.Core.end_turn.Given.{Over}
@@ -22,9 +20,7 @@ free g c = subst (λ (view : CoreView g.row.J.Denot). view.out ≡ None) (sym c.
 
 -- what is known of the queue of the open turn
 known : (g : Over) (c : In-Some g) → KnowsHeld (old_of g c) c.self.inside.queues.slips c.self.inside.ready.keys c.in-Some.turn.queue
-known g c =
-    let exists = turn_exists g.J.Task.meaning (old_of g c) _ _ _ _ _ c.in-Some.turn c.self.invariant c.in-Some.is in
-    knows_held g.J.Task.meaning (old_of g c) _ _ _ _ _ c.in-Some.turn.queue c.self.invariant (held_turn (old_of g c) c.in-Some.turn (free g c) c.in-Some.is) exists
+known g c = knows_turn g.J.Task.meaning (old_of g c) _ _ _ _ _ c.in-Some.turn c.self.invariant (free g c) c.in-Some.is
 
 pub shares-shares-requires : goal.shares-shares-requires
 shares-shares-requires g c = record { exists = (known g (goal.at.shares-shares-requires g c).In-Some).exists }

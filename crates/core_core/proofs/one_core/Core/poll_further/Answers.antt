@@ -1,7 +1,7 @@
-use Rattle.core_core.proofs.Names.{ap, arith, core_view, CoreView, GoesOn, IfSome, is_done_step, job_out, length, longer, min, number_if, OpenTurn, Option, polled_again, queue_count, queues_alone, shares_of, slice_index_or, slice_set, Some}
-use Rattle.core_core.proofs.Names.{subst, sym, Tally, tally_of, waiting_of, ℕ, ◌+◌, ◌-◌, ◌<◌, ◌^◌, ◌∙◌, ◌≡◌}
-use Rattle.core_core.proofs.Charging.{tally_read}
-use Rattle.core_core.proofs.FurtherTurn.{goes_on_has, turn_exists, HasFollowed, IsCore-further_as, IsBounded-further, TurnsFurther-polled}
+use Rattle.core_core.proofs.Names.{ap, core_view, CoreView, GoesOn, IfSome, is_done_step, job_out, longer, min, number_if, OpenTurn, Option, polled_again, queues_alone, shares_of, slice_set, Some}
+use Rattle.core_core.proofs.Names.{subst, sym, tally_of, waiting_of, ◌+◌, ◌-◌, ◌^◌, ◌∙◌}
+use Rattle.core_core.proofs.FurtherTurn.{goes_on_has, HasFollowed, IsCore-further_as, IsBounded-further, TurnsFurther-polled}
+use Rattle.core_core.proofs.HeldQueue.{KnowsHeld, knows_turn}
 use Rattle.core_core.proofs.InTurn.{counted_in_turn}
 use Rattle.core_core.proofs.Whole.{front_ready}
 use Rattle.core_core.proofs.one_core.Core.poll_further.Given.{Over}
@@ -20,15 +20,9 @@ goes g c =
     let goes = subst (λ (view : CoreView g.row.J.Denot). IfSome view.bursts.open (λ (turn : OpenTurn). GoesOn view turn)) (sym c.self.view_is) c.requires.goes in
     subst (λ (found : Option OpenTurn). IfSome found (λ (turn : OpenTurn). GoesOn (old_of g c) turn)) c.in-Some.is goes
 
--- its queue exists
-exists : (g : Over) (c : In-Some g) → c.in-Some.turn.queue < queue_count (queues_alone c.self.inside.queues)
-exists g c = turn_exists g.J.Task.meaning (old_of g c) c.self.inside.queues.slips c.self.inside.ready.keys c.self.inside.inside c.self.inside.room c.self.inside.tallies.cap c.in-Some.turn c.self.invariant c.in-Some.is
-
--- what is read of its tally
-read : (g : Over) (c : In-Some g) (place : ℕ) → place ≡ c.in-Some.turn.queue → (was : Tally) → was ≡ slice_index_or c.self.inside.tallies.items place was → was ≡ tally_of c.in-Some.turn.queue (old_of g c)
-read g c place at was found =
-    let within : place < length c.self.inside.tallies.items = omega (arith, at, c.self.invariant.counted.tallies, exists g c) in
-    tally_read c.self.inside.tallies.items place c.in-Some.turn.queue was at within found
+-- what is known of its queue
+known : (g : Over) (c : In-Some g) → KnowsHeld (old_of g c) c.self.inside.queues.slips c.self.inside.ready.keys c.in-Some.turn.queue
+known g c = knows_turn g.J.Task.meaning (old_of g c) _ _ _ _ _ c.in-Some.turn c.self.invariant (goes g c).free c.in-Some.is
 
 pub turn_front-step-requires-clause-ready : goal.turn_front-step-requires-clause-ready
 turn_front-step-requires-clause-ready g c =
@@ -43,14 +37,14 @@ invariant_of-self g c =
     let turn = c.in-Some.turn in
     let step = c.turn_front-step.result.0 in
     let queues = queues_alone c.turn_front-step.new.self in
-    let known = read g at c.place.result c.place.ensures c.index.result.now c.index.ensures in
+    let was = (known g at).read c.place.result c.place.ensures c.index.result.now c.index.ensures in
     let poll : HasFollowed g.J.Task.meaning (old_of g at) inside.queues.slips inside.ready.keys inside.inside inside.room inside.tallies.cap turn c.turn_front-step.ensures.turns.0 step c.turn_front-step.result.1
     c.unwrap_or-time.result c.finishing-tally.result queues = record {
       core = c.self.invariant;
       goes = goes g at;
       turned = c.turn_front-step.ensures.turns.2;
       limits = c.turn_front-step.ensures.limits;
-      counted = c.finishing-tally.ensures ∙ (λ i. record (known i) { finished = min ((known i).finished + c.ended-done.ensures i) (2 ^ 64 - 1) })
+      counted = c.finishing-tally.ensures ∙ (λ i. record (was i) { finished = min ((was i).finished + c.ended-done.ensures i) (2 ^ 64 - 1) })
           ∙ counted_in_turn (polled_again turn) c.unwrap_or-time.result (shares_of turn.queue queues) (number_if (is_done_step step)) (tally_of turn.queue (old_of g at));
     } in
     let after = ap Some (c.longer-after.ensures ∙ ap (longer c.unwrap_or-time.result) c.polled_again-again.ensures) in
@@ -67,14 +61,14 @@ returns g c =
     let step = c.turn_front-step.result.0 in
     let turns = c.turn_front-step.ensures.turns in
     let queues = queues_alone c.turn_front-step.new.self in
-    let known = read g at c.place.result c.place.ensures c.index.result.now c.index.ensures in
+    let was = (known g at).read c.place.result c.place.ensures c.index.result.now c.index.ensures in
     let poll : HasFollowed g.J.Task.meaning (old_of g at) inside.queues.slips inside.ready.keys inside.inside inside.room inside.tallies.cap turn turns.0 step c.turn_front-step.result.1
     c.unwrap_or-time.result c.finishing-tally.result queues = record {
       core = c.self.invariant;
       goes = goes g at;
       turned = turns.2;
       limits = c.turn_front-step.ensures.limits;
-      counted = c.finishing-tally.ensures ∙ (λ i. record (known i) { finished = min ((known i).finished + c.ended-done.ensures i) (2 ^ 64 - 1) })
+      counted = c.finishing-tally.ensures ∙ (λ i. record (was i) { finished = min ((was i).finished + c.ended-done.ensures i) (2 ^ 64 - 1) })
           ∙ counted_in_turn (polled_again turn) c.unwrap_or-time.result (shares_of turn.queue queues) (number_if (is_done_step step)) (tally_of turn.queue (old_of g at));
     } in
     let polled = TurnsFurther-polled g.J.Task.meaning (old_of g at) inside.queues.slips inside.ready.keys inside.inside inside.room inside.tallies.cap turn turns.0 step c.turn_front-step.result.1
