@@ -21,6 +21,7 @@ pub mod WholeTurn
 pub mod FurtherTurn
 pub mod SettledInTurn
 pub mod HeldQueue
+pub mod Charged
 pub mod Turned
 pub mod AheadTaken
 pub mod Entered

@@ -1,13 +1,12 @@
-use Rattle.core_core.proofs.Names.{ap, arith, core_view, CoreView, is_any, is_some, IsCore, job_out, JobOut, keys_after, length, None, number_if, Option, out_count, queues_alone, refl}
-use Rattle.core_core.proofs.Names.{shares_of, slice_set, slips_after, Some, subst, sym, waiting_of, ◌<◌, ◌∙◌, ◌≡◌}
+use Rattle.core_core.proofs.Names.{ap, arith, core_view, CoreView, is_some, job_out, JobOut, None, number_if, Option, out_count, queues_alone}
+use Rattle.core_core.proofs.Names.{Some, subst, sym, ◌∙◌, ◌≡◌}
 use Rattle.core_core.proofs.Fits.{IsBounded-from_turns}
-use Rattle.core_core.proofs.Charging.{charge_written, charge_fits, lasted_single}
 use Rattle.core_core.proofs.SlipsKept.{slip_again}
 use Rattle.core_core.proofs.HeldQueue.{KnowsHeld, knows_out}
-use Rattle.core_core.proofs.Whole.{IsCore-parked}
+use Rattle.core_core.proofs.Charged.{parks_charged}
 use Rattle.core_core.proofs.one_core.Core.park_charged.Given.{Over}
 use Rattle.core_core.proofs.one_core.Core.park_charged.Goals as goal
-use Rattle.core_core.proofs.one_core.Core.park_charged.Goals.{In-Some, After-drop-out}
+use Rattle.core_core.proofs.one_core.Core.park_charged.Goals.{In-Some}
 
 -- the core before, and its job that is out
 abbrev old_of : (g : Over) (c : In-Some g) → CoreView g.row.J.Denot
@@ -63,51 +62,21 @@ relist-requires g c =
       absent = (known g at).absent;
     })
 
--- the core from then on
-abbrev new_of : (g : Over) (c : After-drop-out g) → CoreView g.row.J.Denot
-new_of g c =
-    let inside = c.self.inside in
-    core_view inside.core inside.cores (queues_alone c.park.new.self) (slice_set inside.tallies.items c.place-2.result c.charged-tally.result) inside.floor inside.turns (job_out c.take.new.self) inside.senders inside.mode inside.bursts
-
-core_of : (g : Over) (c : After-drop-out g) → IsCore g.J.Task.meaning (new_of g c)
-    (slips_after (is_any (waiting_of c.in-Some.out.queue (queues_alone c.park.new.self))) c.in-Some.out.queue c.self.inside.queues.slips)
-    (keys_after (is_any (waiting_of c.in-Some.out.queue (queues_alone c.park.new.self))) c.charged-tally.result.runtime c.in-Some.out.queue c.self.inside.ready.keys) c.self.inside.inside c.self.inside.room c.self.inside.tallies.cap
-core_of g c =
-    let at = (goal.at.returns g c).In-Some in
-    let inside = c.self.inside in
-    let charged = c.charged-tally.ensures in
-    let free : job_out c.take.new.self ≡ None = ap job_out c.take.ensures.after in
-    let no_turn : inside.bursts.open ≡ None = subst (λ (view : CoreView g.row.J.Denot). view.bursts.open ≡ None) (sym c.self.view_is) c.requires.no_turn in
-    let fits = charge_fits inside.turns c.index.result.now c.charged-tally.result c.args.time c.shares-shares.result 0 ((known g at).before c.place.result c.place.ensures c.index.result.now c.index.ensures)
-    charged.value charged.charge charged.clamped in
-    let tallies = ap (λ place. slice_set inside.tallies.items place c.charged-tally.result) c.place-2.ensures in
-    IsCore-parked g.J.Task.meaning (old_of g at) (new_of g c) inside.queues.slips inside.ready.keys inside.inside inside.room inside.tallies.cap (out_of g at) c.args.job c.charged-tally.result
-    (is_any (waiting_of c.in-Some.out.queue (queues_alone c.park.new.self)))
-    c.self.invariant (was_out g at) free no_turn c.park.ensures.parks c.park.ensures.limits tallies fits refl refl refl refl c.requires.ready refl
-
 pub invariant_of-self : goal.invariant_of-self
 invariant_of-self g c =
-    let back = slip_again c.self.inside.queues.slips c.in-Some.out.queue (known g (goal.at.invariant_of-self g c).In-Some).there in
-    rw (c.relist.ensures.keys, c.relist.ensures.slips, c.in-Some-take_slip.ensures.own, c.take_slip.ensures.given, c.park.ensures.slips, back) (core_of g c)
+    let at = (goal.at.invariant_of-self g c).In-Some in
+    let charged = c.charged-tally.ensures in
+    let no_turn = subst (λ (view : CoreView g.row.J.Denot). view.bursts.open ≡ None) (sym c.self.view_is) c.requires.no_turn in
+    let back = slip_again c.self.inside.queues.slips c.in-Some.out.queue (known g at).there in
+    rw (c.relist.ensures.keys, c.relist.ensures.slips, c.in-Some-take_slip.ensures.own, c.take_slip.ensures.given, c.park.ensures.slips, back, c.take.ensures.after, c.place-2.ensures)
+    (parks_charged g.J.Task.meaning (old_of g at) _ _ _ _ _ c.self.invariant (out_of g at) (was_out g at) no_turn c.args.time c.place.result c.shares-shares.result c.index.result.now c.charged-tally.result
+    c.place.ensures c.index.ensures c.shares-shares.ensures charged.value charged.charge charged.clamped (queues_alone c.park.new.self) c.args.job c.park.ensures.parks c.park.ensures.limits c.requires.ready).0
 
 pub returns : goal.returns
 returns g c =
     let at = (goal.at.returns g c).In-Some in
-    let inside = c.self.inside in
-    let queue = c.in-Some.out.queue in
-    let free : job_out c.take.new.self ≡ None = ap job_out c.take.ensures.after in
-    let no_turn : inside.bursts.open ≡ None = subst (λ (view : CoreView g.row.J.Denot). view.bursts.open ≡ None) (sym c.self.view_is) c.requires.no_turn in
-    let here : c.place.result < length inside.tallies.items = omega (arith, c.self.invariant.counted.tallies, (known g at).exists, c.place.ensures) in
-    let written = charge_written inside.tallies.items c.place.result c.place-2.result queue c.index.result.now c.charged-tally.result inside.bursts.open c.args.time c.shares-shares.result (shares_of queue (queues_alone inside.queues)) 0
-    c.place.ensures c.place-2.ensures here c.index.ensures c.charged-tally.ensures.value c.shares-shares.ensures no_turn in
-    let bursts = lasted_single inside.bursts c.args.time no_turn in
-    rw (← c.self.view_is, c.relist.ensures.slips, c.take_slip.ensures.given) (record {
-      parks = record {
-        out = out_of g at;
-        was_out = was_out g at;
-        named = refl;
-        parks = c.park.ensures.parks;
-        rest = λ i. core_view inside.core inside.cores (queues_alone c.park.new.self) (written i) inside.floor inside.turns (free i) inside.senders inside.mode (bursts i);
-      };
-      bounded = IsBounded-from_turns (new_of g c) (core_of g c).turns;
-    })
+    let charged = c.charged-tally.ensures in
+    let no_turn = subst (λ (view : CoreView g.row.J.Denot). view.bursts.open ≡ None) (sym c.self.view_is) c.requires.no_turn in
+    let settled = parks_charged g.J.Task.meaning (old_of g at) _ _ _ _ _ c.self.invariant (out_of g at) (was_out g at) no_turn c.args.time c.place.result c.shares-shares.result c.index.result.now c.charged-tally.result
+    c.place.ensures c.index.ensures c.shares-shares.ensures charged.value charged.charge charged.clamped (queues_alone c.park.new.self) c.args.job c.park.ensures.parks c.park.ensures.limits c.requires.ready in
+    rw (← c.self.view_is, c.relist.ensures.slips, c.take_slip.ensures.given, c.take.ensures.after, c.place-2.ensures) (record { parks = settled.1; bounded = IsBounded-from_turns _ settled.0.turns })
