@@ -1,4 +1,4 @@
-use Rattle.core_queues.proofs.Words.{ap, arith, ContainsKey, get, HasOwnSlips, is_some, JobId, LeavesSeat, length, length-set, line_at, MovesOut, name_of, Queue, queue_at, refl, set, Some, subst, suc, sym, Waiting, ℕ, ◌<◌, ◌∙◌, ◌≡◌}
+use Rattle.core_queues.proofs.Words.{ap, arith, ContainsKey, get, HasOwnSlips, is_some, JobId, LeavesSeat, length, length-set, line_at, MovesOut, name_of, Queue, queue_at, refl, set, Some, subst, sym, Waiting, ℕ, ◌<◌, ◌∙◌, ◌≡◌}
 use Rattle.core_queues.proofs.Finds.{next_within}
 use Rattle.core_queues.proofs.Named.{HoldsNone-nowhere}
 use Rattle.core_queues.proofs.Names.{entry_of, key_within}
