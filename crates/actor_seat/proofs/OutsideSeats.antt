@@ -1,6 +1,6 @@
 -- The outside actor while one of its ends is lent, what a call on it leaves, and what it is at its opening.
 use Rattle.actor_seat.proofs.Names.{ap, AreFresh, arith, DeskView, EndsView, Fits, fresh, fresh_has_lane, fresh_lane, get_or, get_or-set_same, get_or_default, get_or_from_slice_get, Grows, HasLane, IsOutOf, IsSeatedOutside, IsUnused}
-use Rattle.actor_seat.proofs.Names.{IsUnused-fresh, IsWritten, Journal, length, length-replicate, Meaning, no_out, opened_desk, Order, out_at, out_of, Outcome, OutsideView, PassesOn, Refused, Result, Sending, slice_get, slice_get-get_or}
+use Rattle.actor_seat.proofs.Names.{IsUnused-fresh, IsWritten, Journal, length, length-replicate, Meaning, no_out, opened_desk, Order, out_at, out_of, Outcome, OutsideView, PassesOn, refl, Refused, Result, Sending, slice_get, slice_get-get_or}
 use Rattle.actor_seat.proofs.Names.{slice_get_within, Some, StaysBeside, subst, sym, terms_of_desk, UsesOutside, with_out, ℕ, ◌+◌, ◌<◌, ◌∙◌, ◌≡◌, ◌≤◌}
 use Rattle.actor_seat.proofs.LentOut.{AreOuts, LendsOut, out_beside, out_ends, out_lane, out_uses, outs_now}
 use Rattle.actor_seat.proofs.Opened.{fresh_out}
@@ -29,16 +29,20 @@ module _ {J T : Type 0} (meaning : Meaning J T) (desk : DeskView J T) (ends : En
       }
 
 module _ {J T : Type 0} (meaning : Meaning J T) where
-  -- the end to a core, as it is lent by a number that is the core's
-  pub record LendsAt (desk : DeskView J T) (ends : EndsView J T) (core at : ℕ) (before : Sending J T) : Type 0 where
+  -- the end to a core, as the outside actor of this view lends it by a number that is the core's
+  pub record LendsAt (view : OutsideView J T) (desk : DeskView J T) (ends : EndsView J T) (core at : ℕ) (before : Sending J T) : Type 0 where
     pub seated : IsSeatedOutside (Fits meaning) (record { desk = desk; ends = ends })
-    pub known : core < desk.cores
+    pub is : record { desk = desk; ends = ends } ≡ view
+    pub known : core < view.desk.cores
     pub here : at ≡ core
     pub lent : before ≡ out_at at ends
 
-module _ {J T : Type 0} {meaning : Meaning J T} {desk : DeskView J T} {ends : EndsView J T} {core at : ℕ} {before : Sending J T} (lends : LendsAt meaning desk ends core at before) where
+module _ {J T : Type 0} {meaning : Meaning J T} {view : OutsideView J T} {desk : DeskView J T} {ends : EndsView J T} {core at : ℕ} {before : Sending J T} (lends : LendsAt meaning view desk ends core at before) where
+  known_here : core < desk.cores
+  known_here = omega (arith, lends.known, ap (λ view. view.desk.cores) lends.is)
+
   pub as_lent : LendsOut meaning core desk ends before
-  as_lent = record { known = lends.known; is = lends.lent ∙ ap (λ number. out_at number ends) lends.here; outs = outs_of meaning desk ends lends.seated }
+  as_lent = record { known = known_here; is = lends.lent ∙ ap (λ number. out_at number ends) lends.here; outs = outs_of meaning desk ends lends.seated }
 
   pub lent_beside : IsOutOf core desk before.out before.credited
   lent_beside = out_beside as_lent
@@ -47,19 +51,21 @@ module _ {J T : Type 0} {meaning : Meaning J T} {desk : DeskView J T} {ends : En
   lent_lane = out_lane as_lent
 
   -- there is room to note all that it may show, if there is for the end to the core
-  pub lent_room : length desk.journal.notes + length (out_at core ends).out.sent ≤ desk.journal.room + (out_at core ends).out.got → length desk.journal.notes + length before.out.sent ≤ desk.journal.room + before.out.got
-  lent_room room = subst (λ (end : Sending J T). length desk.journal.notes + length end.out.sent ≤ desk.journal.room + end.out.got) (sym as_lent.is) room
+  pub lent_room : length view.desk.journal.notes + length (out_at core view.ends).out.sent ≤ view.desk.journal.room + (out_at core view.ends).out.got → length desk.journal.notes + length before.out.sent ≤ desk.journal.room + before.out.got
+  lent_room room =
+      subst (λ (end : Sending J T). length desk.journal.notes + length end.out.sent ≤ desk.journal.room + end.out.got) (sym as_lent.is)
+      (subst (λ view. length view.desk.journal.notes + length (out_at core view.ends).out.sent ≤ view.desk.journal.room + (out_at core view.ends).out.got) (sym lends.is) room)
 
   module _ (after : Sending J T) where
     abbrev put : EndsView J T
     put = with_out at after ends
 
     put_is : out_at core put ≡ after
-    put_is = ap (λ number. out_at core (with_out number after ends)) lends.here ∙ get_or-set_same ends.outs core after no_out (omega (arith, lends.known, lends.seated.outside.outs_are))
+    put_is = ap (λ number. out_at core (with_out number after ends)) lends.here ∙ get_or-set_same ends.outs core after no_out (omega (arith, known_here, lends.seated.outside.outs_are))
 
     -- what is so of the end as it was lent and as it came back is so of that to the core
-    pub there_too : (fact : Sending J T → Sending J T → Type 0) → fact before after → fact (out_at core ends) (out_at core put)
-    there_too fact holds = subst (λ was. fact was (out_at core put)) as_lent.is (subst (fact before) (sym put_is) holds)
+    pub there_too : (fact : Sending J T → Sending J T → Type 0) → fact before after → fact (out_at core view.ends) (out_at core put)
+    there_too fact holds = subst (λ view. fact (out_at core view.ends) (out_at core put)) lends.is (subst (λ was. fact was (out_at core put)) as_lent.is (subst (fact before) (sym put_is) holds))
 
     module _ {now : DeskView J T} (stays : StaysBeside (Fits meaning) core desk now after.out after.credited) where
       seated_here : IsSeatedOutside (Fits meaning) (record { desk = now; ends = with_out core after ends })
@@ -69,17 +75,18 @@ module _ {J T : Type 0} {meaning : Meaning J T} {desk : DeskView J T} {ends : En
       pub seated_now : IsSeatedOutside (Fits meaning) (record { desk = now; ends = put })
       seated_now = subst (λ number. IsSeatedOutside (Fits meaning) (record { desk = now; ends = with_out number after ends })) (sym lends.here) seated_here
 
-      pub uses_now : after.link ≡ before.link → Grows desk.journal.notes now.journal.notes → UsesOutside (Fits meaning) core (record { desk = desk; ends = ends }) (record { desk = now; ends = put })
+      pub uses_now : after.link ≡ before.link → Grows desk.journal.notes now.journal.notes → UsesOutside (Fits meaning) core view (record { desk = now; ends = put })
       uses_now link grows =
-          subst (λ number. UsesOutside (Fits meaning) core (record { desk = desk; ends = ends }) (record { desk = now; ends = with_out number after ends })) (sym lends.here)
-          (record { seated = seated_here; rest = stays.rest; grows = grows; uses = out_uses as_lent after; same = out_ends as_lent after link })
+          subst (λ view. UsesOutside (Fits meaning) core view (record { desk = now; ends = put })) lends.is
+          (subst (λ number. UsesOutside (Fits meaning) core (record { desk = desk; ends = ends }) (record { desk = now; ends = with_out number after ends })) (sym lends.here)
+          (record { seated = seated_here; rest = stays.rest; grows = grows; uses = out_uses as_lent after; same = out_ends as_lent after link }))
 
 -- the end to a core, as it is read
 pub read_beside : {J T : Type 0} (meaning : Meaning J T) (desk : DeskView J T) (ends : EndsView J T) → IsSeatedOutside (Fits meaning) (record { desk = desk; ends = ends }) → (core at : ℕ) → core < desk.cores → at ≡ core →
     (end : Sending J T) → end ≡ get_or ends.outs at end → IsOutOf core desk end.out end.credited
 read_beside meaning desk ends seated core at known here end is =
     let low : at < length ends.outs = omega (arith, known, here, seated.outside.outs_are) in
-    let lends : LendsAt meaning desk ends core at end = record { seated = seated; known = known; here = here; lent = is ∙ get_or_default ends.outs at end no_out low } in
+    let lends : LendsAt meaning (record { desk = desk; ends = ends }) desk ends core at end = record { seated = seated; is = refl; known = known; here = here; lent = is ∙ get_or_default ends.outs at end no_out low } in
     lent_beside lends
 
 -- there is room to note all that the end to a core may show, if there is room for as many as a link holds

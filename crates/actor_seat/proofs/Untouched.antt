@@ -49,7 +49,7 @@ module _ {J T A : Type 0} {meaning : Meaning J T} (answer : Result A TicketError
       ap₂ linked core_is (same_ends lent link out stays same))
 
   -- so it does the outside actor
-  pub outside_stays : {at : ℕ} (desk now : DeskView J T) → LendsAt meaning desk ends core at before → StaysBeside (Fits meaning) core desk now after.out after.credited → OnErr answer (now ≡ desk) →
-      OnErr answer (outside now (with_out at after ends) ≡ outside desk ends)
-  outside_stays desk now lends stays = on_err_weaker answer (λ same.
-      ap (λ number. outside now (with_out number after ends)) lends.here ∙ ap₂ outside same (same_ends (as_lent lends) link out stays same))
+  pub outside_stays : {at : ℕ} {view : OutsideView J T} {desk now : DeskView J T} → LendsAt meaning view desk ends core at before → StaysBeside (Fits meaning) core desk now after.out after.credited → OnErr answer (now ≡ desk) →
+      OnErr answer (outside now (with_out at after ends) ≡ view)
+  outside_stays {now = now} lends stays = on_err_weaker answer (λ same.
+      ap (λ number. outside now (with_out number after ends)) lends.here ∙ (ap₂ outside same (same_ends (as_lent lends) link out stays same) ∙ lends.is))

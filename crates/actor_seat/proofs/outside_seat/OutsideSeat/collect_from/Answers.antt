@@ -1,4 +1,4 @@
-use Rattle.actor_seat.proofs.Names.{ap, arith, booked, CollectsFrom, Fits, GetsAll, length, out_at, refl, subst, sym, UsesOutside, with_out, ◌+◌, ◌∙◌, ◌≤◌}
+use Rattle.actor_seat.proofs.Names.{ap, arith, booked, CollectsFrom, GetsAll, refl, subst, ◌∙◌}
 use Rattle.actor_seat.proofs.Adding.{collects_add}
 use Rattle.actor_seat.proofs.OutsideSeats.{LendsAt, lent_beside, lent_lane, lent_room, seated_now, there_too, uses_now}
 use Rattle.actor_seat.proofs.outside_seat.OutsideSeat.collect_from.Given.{Over}
@@ -9,23 +9,13 @@ pub out_mut-requires : goal.out_mut-requires
 out_mut-requires g c = omega (arith, c.requires.there, ap (λ view. view.desk.cores) c.self.view_is, c.self.invariant.outside.outs_are)
 
 -- the end to the core, as it is lent
-lends : (g : Over) (c : After-out_mut g) → LendsAt g.J.Task.meaning c.self.inside.desk c.self.inside.ends c.args.core c.args.core c.out_mut.result.now
-lends g c = record {
-  seated = c.self.invariant;
-  known = omega (arith, c.requires.there, ap (λ view. view.desk.cores) c.self.view_is);
-  here = refl;
-  lent = c.out_mut.ensures.value;
-}
+lends : (g : Over) (c : After-out_mut g) → LendsAt g.J.Task.meaning c.args.self.now c.self.inside.desk c.self.inside.ends c.args.core c.args.core c.out_mut.result.now
+lends g c = record { seated = c.self.invariant; is = c.self.view_is; known = c.requires.there; here = refl; lent = c.out_mut.ensures.value }
 
 pub collect_from-requires : goal.collect_from-requires
 collect_from-requires g c =
     let lent = lends g (goal.at.collect_from-requires g c).After-out_mut in
-    record {
-      beside = lent_beside lent;
-      lane = lent_lane lent;
-      room = lent_room lent
-          (subst (λ view. length view.desk.journal.notes + length (out_at c.args.core view.ends).out.sent ≤ view.desk.journal.room + (out_at c.args.core view.ends).out.got) (sym c.self.view_is) c.requires.room);
-    }
+    record { beside = lent_beside lent; lane = lent_lane lent; room = lent_room lent c.requires.room }
 
 pub invariant_of-self : goal.invariant_of-self
 invariant_of-self g c = seated_now (lends g (goal.at.invariant_of-self g c).After-out_mut) c.collect_from.new.end c.collect_from.ensures.stays
@@ -37,11 +27,9 @@ pub returns-clause-books : goal.returns-clause-books
 returns-clause-books g c = c.collect_from.ensures.books ∙ ap (λ view. booked view.desk) c.self.view_is
 
 pub returns-clause-shown : goal.returns-clause-shown
-returns-clause-shown g c =
-    subst (λ view. GetsAll (out_at c.args.core view.ends).out (out_at c.args.core (with_out c.args.core c.collect_from.new.end c.self.inside.ends)).out) c.self.view_is
-    (there_too (lends g (goal.at.returns-clause-shown g c).After-out_mut) c.collect_from.new.end (λ was now. GetsAll was.out now.out) c.collect_from.ensures.end)
+returns-clause-shown g c = there_too (lends g (goal.at.returns-clause-shown g c).After-out_mut) c.collect_from.new.end (λ was now. GetsAll was.out now.out) c.collect_from.ensures.end
 
 pub returns-clause-uses : goal.returns-clause-uses
 returns-clause-uses g c =
-    subst (λ view. UsesOutside (Fits g.J.Task.meaning) c.args.core view (record { desk = c.collect_from.new.self; ends = with_out c.args.core c.collect_from.new.end c.self.inside.ends })) c.self.view_is
-    (uses_now (lends g (goal.at.returns-clause-uses g c).After-out_mut) c.collect_from.new.end c.collect_from.ensures.stays c.collect_from.ensures.untouched (collects_add c.args.core c.self.inside.desk c.collect_from.result c.collect_from.new.self c.collect_from.ensures.collects).grows)
+    uses_now (lends g (goal.at.returns-clause-uses g c).After-out_mut) c.collect_from.new.end c.collect_from.ensures.stays c.collect_from.ensures.untouched
+    (collects_add c.args.core c.self.inside.desk c.collect_from.result c.collect_from.new.self c.collect_from.ensures.collects).grows

@@ -1,4 +1,4 @@
-use Rattle.actor_seat.proofs.Names.{ap, arith, Fits, length, out_at, refl, subst, sym, UsesOutside, with_out, ◌+◌, ◌≤◌}
+use Rattle.actor_seat.proofs.Names.{ap, arith, refl, subst}
 use Rattle.actor_desk.specs.Tickets.{GetsNext}
 use Rattle.actor_seat.proofs.Adding.{next_adds}
 use Rattle.actor_seat.proofs.OutsideSeats.{LendsAt, lent_beside, lent_lane, lent_room, seated_now, there_too, uses_now}
@@ -10,33 +10,21 @@ pub out_mut-requires : goal.out_mut-requires
 out_mut-requires g c = omega (arith, c.requires.there, ap (λ view. view.desk.cores) c.self.view_is, c.self.invariant.outside.outs_are)
 
 -- the end to the core, as it is lent
-lends : (g : Over) (c : After-out_mut g) → LendsAt g.J.Task.meaning c.self.inside.desk c.self.inside.ends c.args.core c.args.core c.out_mut.result.now
-lends g c = record {
-  seated = c.self.invariant;
-  known = omega (arith, c.requires.there, ap (λ view. view.desk.cores) c.self.view_is);
-  here = refl;
-  lent = c.out_mut.ensures.value;
-}
+lends : (g : Over) (c : After-out_mut g) → LendsAt g.J.Task.meaning c.args.self.now c.self.inside.desk c.self.inside.ends c.args.core c.args.core c.out_mut.result.now
+lends g c = record { seated = c.self.invariant; is = c.self.view_is; known = c.requires.there; here = refl; lent = c.out_mut.ensures.value }
 
 pub collect_one-requires : goal.collect_one-requires
 collect_one-requires g c =
     let lent = lends g (goal.at.collect_one-requires g c).After-out_mut in
-    record {
-      beside = lent_beside lent;
-      lane = lent_lane lent;
-      room = lent_room lent
-          (subst (λ view. length view.desk.journal.notes + length (out_at c.args.core view.ends).out.sent ≤ view.desk.journal.room + (out_at c.args.core view.ends).out.got) (sym c.self.view_is) c.requires.room);
-    }
+    record { beside = lent_beside lent; lane = lent_lane lent; room = lent_room lent c.requires.room }
 
 pub invariant_of-self : goal.invariant_of-self
 invariant_of-self g c = seated_now (lends g (goal.at.invariant_of-self g c).After-out_mut) c.collect_one.new.end c.collect_one.ensures.stays
 
 pub returns-clause-gets : goal.returns-clause-gets
 returns-clause-gets g c =
-    subst (λ view. GetsNext c.args.core view.desk c.collect_one.new.self (out_at c.args.core view.ends).out (out_at c.args.core (with_out c.args.core c.collect_one.new.end c.self.inside.ends)).out c.collect_one.result) c.self.view_is
-    (there_too (lends g (goal.at.returns-clause-gets g c).After-out_mut) c.collect_one.new.end (λ was now. GetsNext c.args.core c.self.inside.desk c.collect_one.new.self was.out now.out c.collect_one.result) c.collect_one.ensures.gets)
+    there_too (lends g (goal.at.returns-clause-gets g c).After-out_mut) c.collect_one.new.end (λ was now. GetsNext c.args.core c.args.self.now.desk c.collect_one.new.self was.out now.out c.collect_one.result)
+    (subst (λ view. GetsNext c.args.core view.desk c.collect_one.new.self c.out_mut.result.now.out c.collect_one.new.end.out c.collect_one.result) c.self.view_is c.collect_one.ensures.gets)
 
 pub returns-clause-uses : goal.returns-clause-uses
-returns-clause-uses g c =
-    subst (λ view. UsesOutside (Fits g.J.Task.meaning) c.args.core view (record { desk = c.collect_one.new.self; ends = with_out c.args.core c.collect_one.new.end c.self.inside.ends })) c.self.view_is
-    (uses_now (lends g (goal.at.returns-clause-uses g c).After-out_mut) c.collect_one.new.end c.collect_one.ensures.stays c.collect_one.ensures.untouched (next_adds c.args.core c.self.inside.desk c.collect_one.new.self _ _ c.collect_one.result c.collect_one.ensures.gets).grows)
+returns-clause-uses g c = uses_now (lends g (goal.at.returns-clause-uses g c).After-out_mut) c.collect_one.new.end c.collect_one.ensures.stays c.collect_one.ensures.untouched (next_adds c.args.core c.self.inside.desk c.collect_one.new.self _ _ c.collect_one.result c.collect_one.ensures.gets).grows

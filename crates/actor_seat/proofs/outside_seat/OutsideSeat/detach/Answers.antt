@@ -1,4 +1,4 @@
-use Rattle.actor_seat.proofs.Names.{ap, arith, DetachesTicket, Fits, HoldsSome, IfOk, length, OnErr, out_at, Spends, subst, sym, UsesOutside, with_out, ◌<◌, ◌≡◌}
+use Rattle.actor_seat.proofs.Names.{ap, arith, DetachesTicket, HoldsSome, IfOk, length, Spends, subst, sym, ◌<◌, ◌≡◌}
 use Rattle.actor_seat.proofs.Adding.{detaches_add}
 use Rattle.actor_seat.proofs.OutsideSeats.{LendsAt, lent_beside, lent_lane, seated_now, there_too, uses_now}
 use Rattle.actor_seat.proofs.Untouched.{detach_leaves, outside_stays}
@@ -10,22 +10,13 @@ pub out_mut-requires : goal.out_mut-requires
 out_mut-requires g c = omega (arith, c.requires.there, ap (λ view. view.desk.cores) c.self.view_is, c.self.invariant.outside.outs_are, ap (λ name. name.to) c.name-to.ensures)
 
 -- the end to the core of the ticket, as it is lent
-lends : (g : Over) (c : After-out_mut g) → LendsAt g.J.Task.meaning c.self.inside.desk c.self.inside.ends c.args.ticket.to c.name-to.result.to c.out_mut.result.now
-lends g c = record {
-  seated = c.self.invariant;
-  known = omega (arith, c.requires.there, ap (λ view. view.desk.cores) c.self.view_is);
-  here = ap (λ name. name.to) c.name-to.ensures;
-  lent = c.out_mut.ensures.value;
-}
+lends : (g : Over) (c : After-out_mut g) → LendsAt g.J.Task.meaning c.args.self.now c.self.inside.desk c.self.inside.ends c.args.ticket.to c.name-to.result.to c.out_mut.result.now
+lends g c = record { seated = c.self.invariant; is = c.self.view_is; known = c.requires.there; here = ap (λ name. name.to) c.name-to.ensures; lent = c.out_mut.ensures.value }
 
 pub detach-requires : goal.detach-requires
 detach-requires g c =
     let lent = lends g (goal.at.detach-requires g c).After-out_mut in
-    record {
-      beside = lent_beside lent;
-      lane = lent_lane lent;
-      room = subst (λ view. HoldsSome c.args.ticket view.desk → length view.desk.journal.notes < view.desk.journal.room) (sym c.self.view_is) c.requires.room;
-    }
+    record { beside = lent_beside lent; lane = lent_lane lent; room = subst (λ view. HoldsSome c.args.ticket view.desk → length view.desk.journal.notes < view.desk.journal.room) (sym c.self.view_is) c.requires.room }
 
 pub invariant_of-self : goal.invariant_of-self
 invariant_of-self g c = seated_now (lends g (goal.at.invariant_of-self g c).After-out_mut) c.detach.new.end c.detach.ensures.stays
@@ -37,16 +28,10 @@ pub returns-clause-spends : goal.returns-clause-spends
 returns-clause-spends g c = subst (λ view. IfOk c.detach.result (λ _. Spends c.args.ticket.to 0 view.desk c.detach.new.self)) c.self.view_is c.detach.ensures.spends
 
 pub returns-clause-out : goal.returns-clause-out
-returns-clause-out g c =
-    subst (λ view. (out_at c.args.ticket.to (with_out c.name-to.result.to c.detach.new.end c.self.inside.ends)).out ≡ (out_at c.args.ticket.to view.ends).out) c.self.view_is
-    (there_too (lends g (goal.at.returns-clause-out g c).After-out_mut) c.detach.new.end (λ was now. now.out ≡ was.out) c.detach.ensures.out)
+returns-clause-out g c = there_too (lends g (goal.at.returns-clause-out g c).After-out_mut) c.detach.new.end (λ was now. now.out ≡ was.out) c.detach.ensures.out
 
 pub returns-clause-refused : goal.returns-clause-refused
-returns-clause-refused g c =
-    subst (λ view. OnErr c.detach.result (record { desk = c.detach.new.self; ends = with_out c.name-to.result.to c.detach.new.end c.self.inside.ends } ≡ view)) c.self.view_is
-    (outside_stays c.detach.result c.detach.ensures.untouched c.detach.ensures.out c.self.inside.desk c.detach.new.self (lends g (goal.at.returns-clause-refused g c).After-out_mut) c.detach.ensures.stays (detach_leaves _ _ _ _ c.detach.ensures.detaches))
+returns-clause-refused g c = outside_stays c.detach.result c.detach.ensures.untouched c.detach.ensures.out (lends g (goal.at.returns-clause-refused g c).After-out_mut) c.detach.ensures.stays (detach_leaves _ _ _ _ c.detach.ensures.detaches)
 
 pub returns-clause-uses : goal.returns-clause-uses
-returns-clause-uses g c =
-    subst (λ view. UsesOutside (Fits g.J.Task.meaning) c.args.ticket.to view (record { desk = c.detach.new.self; ends = with_out c.name-to.result.to c.detach.new.end c.self.inside.ends })) c.self.view_is
-    (uses_now (lends g (goal.at.returns-clause-uses g c).After-out_mut) c.detach.new.end c.detach.ensures.stays c.detach.ensures.untouched (detaches_add _ _ _ _ c.detach.ensures.detaches).grows)
+returns-clause-uses g c = uses_now (lends g (goal.at.returns-clause-uses g c).After-out_mut) c.detach.new.end c.detach.ensures.stays c.detach.ensures.untouched (detaches_add _ _ _ _ c.detach.ensures.detaches).grows
