@@ -1,6 +1,6 @@
 -- The end to one core, as it is lent, and what a call on it leaves.
-use Rattle.actor_seat.proofs.Names.{ap, AreBeside, AreOutsOf, arith, changed, collects_keep, CollectsFrom, CollectsOf, desk_of, DeskView, EndsView, eqb_tells, Err, Fits, get_or-set_other, get_or-set_same, GetsAll, HasLane, IfOk, inl, inr}
-use Rattle.actor_seat.proofs.Names.{IsLinked, IsOutOf, IsRecorded, IsSameSeat, IsSeated, KeepsIn, length, length-append, length-set, List, Meaning, no_out, Ok, Order, out_at, out_used, Outward, RecordedView, refl, Result, SameEnds, seen_by}
+use Rattle.actor_seat.proofs.Names.{ap, AreOutsOf, arith, changed, collects_keep, CollectsFrom, CollectsOf, desk_of, DeskView, EndsView, eqb_tells, Err, Fits, get_or-set_other, get_or-set_same, GetsAll, HasLane, IfOk, inl, inr}
+use Rattle.actor_seat.proofs.Names.{IsLinked, IsOutOf, IsRecorded, IsSameSeat, IsSeated, KeepsIn, length, length-append, length-set, LinkedView, List, Meaning, no_out, Ok, Order, out_at, out_used, Outward, RecordedView, refl, Result, SameEnds, seen_by}
 use Rattle.actor_seat.proofs.Names.{seen_got, sees_more_owed, SeesNoLess, SendError, Sending, Sends, set, slice_get, slice_get-get_or, Some, StaysBeside, StaysLinked, subst, sym, unchanged, UsesOut, with_out, ℕ, ◌+◌, ◌<◌, ◌∙◌, ◌≡◌, ◌≤◌}
 use Rattle.base_words.specs.declared.order.SendError.TheVariants.{Closed, Full, Spent, NoCore}
 use Rattle.std.specs.Prelude.{Bool, true, false}
@@ -52,10 +52,6 @@ module _ {J T : Type 0} {meaning : Meaning J T} {core : ℕ} {desk : DeskView J 
 
   pub out_lane : HasLane (Fits meaning) core desk before.out before.credited
   out_lane = lent.outs.lanes core before out_there
-
-  -- there is room to note all outcomes that the link holds, if there is room for as many as it may hold
-  pub out_room : length desk.journal.notes + desk.cap ≤ desk.journal.room → length desk.journal.notes + length before.out.sent ≤ desk.journal.room + before.out.got
-  out_room room = omega (arith, room, out_lane.lane_of.sound.room, out_lane.lane_of.sound.credits, out_beside.capacity)
 
   module _ (after : Sending J T) where
     out_now : out_at core (with_out core after ends) ≡ after
@@ -115,48 +111,76 @@ module _ {J T : Type 0} {meaning : Meaning J T} {core : ℕ} {desk : DeskView J 
       omega (arith, (next_adds core desk now before.out after.out true gets).few, ap (λ (out : Outward J T). out.got) gets.1, ap (λ (out : Outward J T). length out.sent) gets.1, gets.3, sound.room, sound.credits, out_beside.capacity)
   next_few now after false gets = omega (arith, ap (λ (desk : DeskView J T). length desk.journal.notes) gets.0)
 
+module _ {J T : Type 0} (meaning : Meaning J T) where
+  -- the end to a core, as the core of this view lends it by a number that is the core's
+  pub record LendsOn (view : LinkedView J T) (recorded : RecordedView J T) (ends : EndsView J T) (core at : ℕ) (before : Sending J T) : Type 0 where
+    pub seated : IsSeated meaning (record { recorded = recorded; ends = ends })
+    pub is : record { recorded = recorded; ends = ends } ≡ view
+    pub known : core < recorded.core.cores
+    pub here : at ≡ core
+    pub lent : before ≡ out_at at ends
+
+module _ {J T : Type 0} {meaning : Meaning J T} {view : LinkedView J T} {recorded : RecordedView J T} {ends : EndsView J T} {core at : ℕ} {before : Sending J T} (lends : LendsOn meaning view recorded ends core at before) where
+  pub as_out : LendsOut meaning core (desk_of recorded) ends before
+  as_out = record { known = lends.known; is = lends.lent ∙ ap (λ number. out_at number ends) lends.here; outs = lends.seated.beside.outs }
+
+  -- there is room to note all outcomes that the link holds, if there is room for as many as it may hold
+  pub out_room : length view.recorded.journal.notes + view.recorded.cap ≤ view.recorded.journal.room → length recorded.journal.notes + length before.out.sent ≤ recorded.journal.room + before.out.got
+  out_room room =
+      let here = subst (λ (view : LinkedView J T). length view.recorded.journal.notes + view.recorded.cap ≤ view.recorded.journal.room) (sym lends.is) room in
+      omega (arith, here, (out_lane as_out).lane_of.sound.room, (out_lane as_out).lane_of.sound.credits, (out_beside as_out).capacity)
+
 -- the same of a core, whose other ends stay
-module _ {J T : Type 0} {meaning : Meaning J T} {recorded : RecordedView J T} {ends : EndsView J T} (beside : AreBeside (Fits meaning) recorded ends) {core : ℕ} {before : Sending J T}
-    (lent : LendsOut meaning core (desk_of recorded) ends before) (now : RecordedView J T) (after : Sending J T) where
+module _ {J T : Type 0} {meaning : Meaning J T} {view : LinkedView J T} {recorded : RecordedView J T} {ends : EndsView J T} {core at : ℕ} {before : Sending J T} (lends : LendsOn meaning view recorded ends core at before)
+    (now : RecordedView J T) (after : Sending J T) where
+  -- what is so of the core and of this end to it is so of the view, and of the end by its number
+  pub so_of_view : (fact : LinkedView J T → LinkedView J T → Type 0) → fact (record { recorded = recorded; ends = ends }) (record { recorded = now; ends = with_out core after ends }) → fact view (record { recorded = now; ends = with_out at after ends })
+  so_of_view fact holds =
+      subst (λ view. fact view (record { recorded = now; ends = with_out at after ends })) lends.is
+      (subst (λ number. fact (record { recorded = recorded; ends = ends }) (record { recorded = now; ends = with_out number after ends })) (sym lends.here) holds)
+
   pub out_stays : {count : ℕ} → IsSameSeat recorded now → after.link ≡ before.link → length before.out.seen ≤ length after.out.seen → Adds count recorded.journal.notes now.journal.notes →
       StaysLinked (record { recorded = recorded; ends = ends }) (record { recorded = now; ends = with_out core after ends })
-  out_stays seat link longer adds = record { seat = seat; sees = out_sees lent after longer; ends = out_ends lent after link; opening = adds.opening; grows = adds.grows }
+  out_stays seat link longer adds = record { seat = seat; sees = out_sees (as_out lends) after longer; ends = out_ends (as_out lends) after link; opening = adds.opening; grows = adds.grows }
 
-  pub out_seated : StaysBeside (Fits meaning) core (desk_of recorded) (desk_of now) after.out after.credited → ((sender : ℕ) → KeepsIn sender recorded now) → IsSameSeat recorded now → IsRecorded meaning now →
-      IsSeated meaning (record { recorded = now; ends = with_out core after ends })
-  out_seated stays ins seat sound = record { recorded = sound; beside = resent_beside recorded now ends ends refl (set ends.outs core after) beside ins seat (outs_now lent after stays) }
+  module _ (stays : StaysBeside (Fits meaning) core (desk_of recorded) (desk_of now) after.out after.credited) (ins : (sender : ℕ) → KeepsIn sender recorded now) (seat : IsSameSeat recorded now) (sound : IsRecorded meaning now) where
+    pub seated_here : IsSeated meaning (record { recorded = now; ends = with_out core after ends })
+    seated_here = record { recorded = sound; beside = resent_beside recorded now ends ends refl (set ends.outs core after) lends.seated.beside ins seat (outs_now (as_out lends) after stays) }
+
+    pub out_seated : IsSeated meaning (record { recorded = now; ends = with_out at after ends })
+    out_seated = so_of_view (λ _. IsSeated meaning) seated_here
 
   -- the next outcome is collected, if the end shows one
   pub next_does : (found : Bool) → GetsNext core (desk_of recorded) (desk_of now) before.out after.out found → now ≡ record recorded { journal = now.journal; lanes = now.lanes } → IsSameSeat recorded now → after.link ≡ before.link →
-      CollectsOne core (record { recorded = recorded; ends = ends }) found (record { recorded = now; ends = with_out core after ends })
-  next_does found gets rest seat link = record {
-    gets = out_next lent after (desk_of recorded) (desk_of now) found gets;
-    others = (out_uses lent after).others;
-    few = next_few lent (desk_of now) after found gets;
+      CollectsOne core view found (record { recorded = now; ends = with_out at after ends })
+  next_does found gets rest seat link = so_of_view (λ old. CollectsOne core old found) (record {
+    gets = out_next (as_out lends) after (desk_of recorded) (desk_of now) found gets;
+    others = (out_uses (as_out lends) after).others;
+    few = next_few (as_out lends) (desk_of now) after found gets;
     rest = rest;
     stays = out_stays seat link (next_sees core (desk_of recorded) (desk_of now) before.out after.out found gets) (next_adds core (desk_of recorded) (desk_of now) before.out after.out found gets);
-  }
+  })
 
   -- all outcomes are collected that the end shows
   module _ (count : ℕ) (collects : CollectsFrom core (desk_of recorded) count (desk_of now)) (all : GetsAll before.out after.out) (rest : now ≡ record recorded { journal = now.journal; lanes = now.lanes }) where
     pub collected_does : IsSameSeat recorded now → after.link ≡ before.link → length now.journal.notes ≤ length recorded.journal.notes + recorded.cap →
-        CollectsOf core (record { recorded = recorded; ends = ends }) count (record { recorded = now; ends = with_out core after ends })
-    collected_does seat link few = record {
+        CollectsOf core view count (record { recorded = now; ends = with_out at after ends })
+    collected_does seat link few = so_of_view (λ old. CollectsOf core old count) (record {
       collects = collects;
-      all = out_gets lent after all;
-      others = (out_uses lent after).others;
+      all = out_gets (as_out lends) after all;
+      others = (out_uses (as_out lends) after).others;
       few = omega (arith, few, collects.2, ap (λ journal. length journal.notes) collects.3, length-append collects.0 recorded.journal.notes);
       rest = rest;
       stays = out_stays seat link (prefix_shorter before.out.seen after.out.seen all.1) (collects_add core (desk_of recorded) count (desk_of now) collects);
-    }
+    })
 
     -- each poll is owed as before, where an end has seen more
-    pub collected_linked : IsSeated meaning (record { recorded = now; ends = with_out core after ends }) → IsLinked meaning (record { recorded = recorded; ends = ends }) → IsLinked meaning (record { recorded = now; ends = with_out core after ends })
-    collected_linked seated linked = record {
+    pub collected_linked : IsSeated meaning (record { recorded = now; ends = with_out core after ends }) → IsLinked meaning view → IsLinked meaning (record { recorded = now; ends = with_out at after ends })
+    collected_linked seated = so_of_view (λ old new. IsLinked meaning old → IsLinked meaning new) (λ linked. record {
       recorded = seated.recorded;
       at_rest = ap (λ view. view.core.out) rest ∙ linked.at_rest;
       beside = seated.beside;
       owed =
-          sees_more_owed meaning (seen_by (λ (end : Sending J T). end.out) ends.outs) (seen_by (λ (end : Sending J T). end.out) (set ends.outs core after)) (seen_got (λ (end : Sending J T). end.out) ends.outs core before after (out_there lent) all) now
+          sees_more_owed meaning (seen_by (λ (end : Sending J T). end.out) ends.outs) (seen_by (λ (end : Sending J T). end.out) (set ends.outs core after)) (seen_got (λ (end : Sending J T). end.out) ends.outs core before after (out_there (as_out lends)) all) now
           (collects_keep meaning (seen_by (λ (end : Sending J T). end.out) ends.outs) recorded now rest core count collects linked.owed);
-    }
+    })
