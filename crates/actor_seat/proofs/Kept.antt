@@ -1,6 +1,6 @@
 -- A core and its ends after a step that touched none of them.
-use Rattle.actor_seat.proofs.Names.{ap, AreBeside, arith, Bool, ClosesItself, desk_of, ends_same, EndsView, false, Fits, IsLinked, IsRecorded, IsSameSeat, IsSeated, KeepsIn, KeepsOuts, Meaning, Mode, PollsAsOwed, RecordedView, StaysLinked}
-use Rattle.actor_seat.proofs.Names.{sym, true, ℕ, ◌+◌, ◌∙◌, ◌≡◌}
+use Rattle.actor_seat.proofs.Names.{ap, AreBeside, arith, Bool, ClosesItself, desk_of, ends_same, EndsView, false, Fits, IsLinked, IsRecorded, IsSameSeat, IsSeated, KeepsIn, KeepsOuts, LinkedView, Meaning, Mode, PollsAsOwed, RecordedView, StaysLinked}
+use Rattle.actor_seat.proofs.Names.{subst, sym, true, ℕ, ◌+◌, ◌∙◌, ◌≡◌}
 use Rattle.std.proofs.Common.{None}
 use Rattle.actor_seat.proofs.Adding.{Adds}
 use Rattle.actor_seat.proofs.Along.{sees_same}
@@ -27,8 +27,8 @@ module _ {J T : Type 0} {meaning : Meaning J T} {old new : RecordedView J T} (le
   pub kept_seated : IsSeated meaning (record { recorded = old; ends = ends }) → IsSeated meaning (record { recorded = new; ends = ends })
   kept_seated seated = record { recorded = leaves.sound; beside = kept_beside seated.beside }
 
-  pub kept_stays : {count : ℕ} → Adds count old.journal.notes new.journal.notes → StaysLinked (record { recorded = old; ends = ends }) (record { recorded = new; ends = ends })
-  kept_stays adds = record { seat = leaves.seat; ends = ends_same ends; sees = sees_same ends; opening = adds.opening; grows = adds.grows }
+  pub kept_stays : {view : LinkedView J T} {count : ℕ} → record { recorded = old; ends = ends } ≡ view → Adds count old.journal.notes new.journal.notes → StaysLinked view (record { recorded = new; ends = ends })
+  kept_stays is adds = subst (λ view. StaysLinked view (record { recorded = new; ends = ends })) is (record { seat = leaves.seat; ends = ends_same ends; sees = sees_same ends; opening = adds.opening; grows = adds.grows })
 
   pub kept_linked : IsLinked meaning (record { recorded = old; ends = ends }) → new.core.out ≡ None → PollsAsOwed meaning new ends → IsLinked meaning (record { recorded = new; ends = ends })
   kept_linked linked rest polls = record { recorded = leaves.sound; at_rest = rest; beside = kept_beside linked.beside; owed = polls }

@@ -1,4 +1,4 @@
-use Rattle.actor_seat.proofs.Names.{closes_keep, IsLinked, seen_by, Sending, StaysLinked, subst, sym}
+use Rattle.actor_seat.proofs.Names.{closes_keep, IsLinked, seen_by, Sending, subst, sym}
 use Rattle.actor_seat.proofs.AddedTurns.{adds_closing}
 use Rattle.actor_seat.proofs.Kept.{LeavesEnds, closed_rests, kept_linked, kept_seated, kept_stays}
 use Rattle.actor_seat.proofs.seat.Seat.close.Given.{Over}
@@ -17,8 +17,7 @@ returns-clause-seated g c = kept_seated (leaves g (goal.at.returns-clause-seated
 
 pub returns-clause-stays : goal.returns-clause-stays
 returns-clause-stays g c =
-    subst (λ old. StaysLinked old (record { recorded = c.close.new.self; ends = c.self.inside.ends })) c.self.view_is
-    (kept_stays (leaves g (goal.at.returns-clause-stays g c).After-close) c.self.inside.ends (adds_closing c.self.inside.recorded c.close.new.self c.args.mode c.close.result c.close.ensures.closes))
+    kept_stays (leaves g (goal.at.returns-clause-stays g c).After-close) c.self.inside.ends c.self.view_is (adds_closing c.self.inside.recorded c.close.new.self c.args.mode c.close.result c.close.ensures.closes)
 
 pub returns-clause-linked : goal.returns-clause-linked
 returns-clause-linked g c = λ linked.

@@ -1,4 +1,4 @@
-use Rattle.actor_seat.proofs.Names.{ends_keep, IsLinked, seen_by, Sending, StaysLinked, subst, sym}
+use Rattle.actor_seat.proofs.Names.{ends_keep, IsLinked, seen_by, Sending, subst, sym}
 use Rattle.actor_seat.proofs.AddedTurns.{adds_ended}
 use Rattle.actor_seat.proofs.Kept.{LeavesEnds, kept_linked, kept_seated, kept_stays}
 use Rattle.actor_seat.proofs.seat.Seat.end_turn.Given.{Over}
@@ -17,8 +17,7 @@ returns-clause-seated g c = kept_seated (leaves g (goal.at.returns-clause-seated
 
 pub returns-clause-stays : goal.returns-clause-stays
 returns-clause-stays g c =
-    subst (λ old. StaysLinked old (record { recorded = c.end_turn.new.self; ends = c.self.inside.ends })) c.self.view_is
-    (kept_stays (leaves g (goal.at.returns-clause-stays g c).After-end_turn) c.self.inside.ends (adds_ended c.self.inside.recorded c.end_turn.new.self c.end_turn.result c.end_turn.ensures.ends))
+    kept_stays (leaves g (goal.at.returns-clause-stays g c).After-end_turn) c.self.inside.ends c.self.view_is (adds_ended c.self.inside.recorded c.end_turn.new.self c.end_turn.result c.end_turn.ensures.ends)
 
 pub returns-clause-linked : goal.returns-clause-linked
 returns-clause-linked g c = λ linked.

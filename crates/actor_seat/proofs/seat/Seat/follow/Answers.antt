@@ -1,4 +1,3 @@
-use Rattle.actor_seat.proofs.Names.{StaysLinked, subst}
 use Rattle.actor_seat.proofs.AddedTurns.{adds_followed}
 use Rattle.actor_seat.proofs.Kept.{LeavesEnds, kept_seated, kept_stays}
 use Rattle.actor_seat.proofs.seat.Seat.follow.Given.{Over}
@@ -17,5 +16,4 @@ returns-clause-seated g c = kept_seated (leaves g (goal.at.returns-clause-seated
 
 pub returns-clause-stays : goal.returns-clause-stays
 returns-clause-stays g c =
-    subst (λ old. StaysLinked old (record { recorded = c.follow.new.self; ends = c.self.inside.ends })) c.self.view_is
-    (kept_stays (leaves g (goal.at.returns-clause-stays g c).After-follow) c.self.inside.ends (adds_followed c.self.inside.recorded c.follow.new.self c.follow.result c.follow.ensures.follows))
+    kept_stays (leaves g (goal.at.returns-clause-stays g c).After-follow) c.self.inside.ends c.self.view_is (adds_followed c.self.inside.recorded c.follow.new.self c.follow.result c.follow.ensures.follows)

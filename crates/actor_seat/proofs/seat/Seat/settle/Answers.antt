@@ -1,4 +1,4 @@
-use Rattle.actor_seat.proofs.Names.{ap, arith, IsOut, IsOutUnder, length, outcome_settled, Settles, StaysLinked, subst, sym, with_in, ◌<◌}
+use Rattle.actor_seat.proofs.Names.{ap, arith, IsOut, IsOutUnder, length, outcome_settled, Settles, subst, sym, ◌<◌}
 use Rattle.actor_seat.proofs.LentIn.{LeavesIn, LendsIn, its_in, settled_seated, settled_stays}
 use Rattle.actor_seat.proofs.Seen.{gives_seen}
 use Rattle.actor_seat.proofs.seat.Seat.settle.Given.{Over}
@@ -6,12 +6,8 @@ use Rattle.actor_seat.proofs.seat.Seat.settle.Goals as goal
 use Rattle.actor_seat.proofs.seat.Seat.settle.Goals.{After-in_mut, After-settle}
 
 -- the end of the sender, as it is lent
-lends : (g : Over) (c : After-in_mut g) → LendsIn g.J.Task.meaning c.args.name.from c.self.inside.recorded c.self.inside.ends c.in_mut.result.now
-lends g c = record {
-  beside = c.self.invariant.beside;
-  known = omega (arith, c.requires.known, ap (λ view. view.recorded.core.cores) c.self.view_is);
-  is = c.in_mut.ensures.value;
-}
+lends : (g : Over) (c : After-in_mut g) → LendsIn g.J.Task.meaning c.args.self.now c.args.name.from c.self.inside.recorded c.self.inside.ends c.in_mut.result.now
+lends g c = record { beside = c.self.invariant.beside; view_is = c.self.view_is; known = c.requires.known; is = c.in_mut.ensures.value }
 
 -- what the call on it left
 leaves : (g : Over) (c : After-settle g) → LeavesIn g.J.Task.meaning c.args.name.from c.self.inside.recorded c.settle.new.self c.in_mut.result.now c.settle.new.end
@@ -28,17 +24,14 @@ leaves g c = record {
 pub in_mut-requires : goal.in_mut-requires
 in_mut-requires g c = omega (arith, c.self.invariant.beside.ins_are, c.requires.known, ap (λ view. view.recorded.core.cores) c.self.view_is)
 
-pub settle-requires-clause-beside : goal.settle-requires-clause-beside
-settle-requires-clause-beside g c = its_in (lends g (goal.at.settle-requires-clause-beside g c).After-in_mut)
-
-pub settle-requires-clause-out : goal.settle-requires-clause-out
-settle-requires-clause-out g c = subst (λ view. IsOut view.recorded.core.out c.args.ran.before) (sym c.self.view_is) c.requires.out
-
-pub settle-requires-clause-named : goal.settle-requires-clause-named
-settle-requires-clause-named g c = subst (λ view. IsOutUnder view.recorded.core.out c.args.name) (sym c.self.view_is) c.requires.named
-
-pub settle-requires-clause-room : goal.settle-requires-clause-room
-settle-requires-clause-room g c = subst (λ view. length view.recorded.journal.notes < view.recorded.journal.room) (sym c.self.view_is) c.requires.room
+pub settle-requires : goal.settle-requires
+settle-requires g c = record {
+  beside = its_in (lends g (goal.at.settle-requires g c).After-in_mut);
+  out = subst (λ view. IsOut view.recorded.core.out c.args.ran.before) (sym c.self.view_is) c.requires.out;
+  named = subst (λ view. IsOutUnder view.recorded.core.out c.args.name) (sym c.self.view_is) c.requires.named;
+  room = subst (λ view. length view.recorded.journal.notes < view.recorded.journal.room) (sym c.self.view_is) c.requires.room;
+  polled = c.requires.polled;
+}
 
 pub returns-clause-settles : goal.returns-clause-settles
 returns-clause-settles g c = subst (λ view. Settles g.J.Task.meaning view.recorded c.args.ran c.args.spent c.settle.result c.settle.new.self) c.self.view_is c.settle.ensures.settles
@@ -56,5 +49,4 @@ returns-clause-seated g c =
 pub returns-clause-stays : goal.returns-clause-stays
 returns-clause-stays g c =
     let here = goal.at.returns-clause-stays g c in
-    subst (λ old. StaysLinked old (record { recorded = c.settle.new.self; ends = with_in c.args.name.from c.settle.new.end c.self.inside.ends })) c.self.view_is
-    (settled_stays (lends g here.After-in_mut) _ _ _ c.settle.ensures.settles (gives_seen c.in_mut.result.now.inward c.args.name.number (outcome_settled c.settle.result) c.settle.new.end.inward c.settle.ensures.gives) (leaves g here.After-settle))
+    settled_stays (lends g here.After-in_mut) _ _ _ c.settle.ensures.settles (gives_seen c.in_mut.result.now.inward c.args.name.number (outcome_settled c.settle.result) c.settle.new.end.inward c.settle.ensures.gives) (leaves g here.After-settle)
