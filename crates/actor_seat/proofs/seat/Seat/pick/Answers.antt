@@ -1,9 +1,8 @@
-use Rattle.actor_seat.proofs.Names.{ap, arith, ends_same, HasOwedPolls, IsLinked, Ok, owed_back, picks_keep, seen_by, Sending, StaysLinked, subst, sym, taken_of, ◌∙◌, ◌≡◌}
+use Rattle.actor_seat.proofs.Names.{ap, arith, HasOwedPolls, IsLinked, Ok, owed_back, picks_keep, seen_by, Sending, subst, sym, taken_of, ◌∙◌, ◌≡◌}
 use Rattle.core_core.specs.declared.turn.Turn.TheVariants.{Back}
-use Rattle.actor_seat.proofs.Along.{sees_same}
 use Rattle.actor_seat.proofs.HandedBack.{stay_owing}
 use Rattle.actor_seat.proofs.Kept.{kept_seated}
-use Rattle.actor_seat.proofs.Picked.{LeavesPick, back_known, owes_none, pick_leaves, picked_linked, picked_stays, picked_told}
+use Rattle.actor_seat.proofs.Picked.{LeavesPick, back_known, owes_none, pick_leaves, picked_linked, picked_same, picked_stays, picked_told}
 use Rattle.actor_seat.proofs.seat.Seat.pick.Given.{Over}
 use Rattle.actor_seat.proofs.seat.Seat.pick.Goals as goal
 use Rattle.actor_seat.proofs.seat.Seat.pick.Goals.{After-pick, In-Ok-Back}
@@ -36,19 +35,13 @@ returns-in-Ok-Resume-clause-seated g c =
     c.self.inside.ends c.self.invariant
 
 pub returns-in-Ok-Start-clause-stays : goal.returns-in-Ok-Start-clause-stays
-returns-in-Ok-Start-clause-stays g c =
-    subst (λ old. StaysLinked old (record { recorded = c.pick.new.self; ends = c.self.inside.ends })) c.self.view_is
-    (picked_stays (left g (goal.at.returns-in-Ok-Start-clause-stays g c).After-pick) c.self.inside.ends c.self.inside.ends (ends_same c.self.inside.ends) (sees_same c.self.inside.ends))
+returns-in-Ok-Start-clause-stays g c = picked_same (left g (goal.at.returns-in-Ok-Start-clause-stays g c).After-pick) c.self.inside.ends c.self.view_is
 
 pub returns-in-Ok-Resume-clause-stays : goal.returns-in-Ok-Resume-clause-stays
-returns-in-Ok-Resume-clause-stays g c =
-    subst (λ old. StaysLinked old (record { recorded = c.pick.new.self; ends = c.self.inside.ends })) c.self.view_is
-    (picked_stays (left g (goal.at.returns-in-Ok-Resume-clause-stays g c).After-pick) c.self.inside.ends c.self.inside.ends (ends_same c.self.inside.ends) (sees_same c.self.inside.ends))
+returns-in-Ok-Resume-clause-stays g c = picked_same (left g (goal.at.returns-in-Ok-Resume-clause-stays g c).After-pick) c.self.inside.ends c.self.view_is
 
 pub returns-in-Err-clause-stays : goal.returns-in-Err-clause-stays
-returns-in-Err-clause-stays g c =
-    subst (λ old. StaysLinked old (record { recorded = c.pick.new.self; ends = c.self.inside.ends })) c.self.view_is
-    (picked_stays (left g (goal.at.returns-in-Err-clause-stays g c).After-pick) c.self.inside.ends c.self.inside.ends (ends_same c.self.inside.ends) (sees_same c.self.inside.ends))
+returns-in-Err-clause-stays g c = picked_same (left g (goal.at.returns-in-Err-clause-stays g c).After-pick) c.self.inside.ends c.self.view_is
 
 pub returns-in-Err-clause-refused : goal.returns-in-Err-clause-refused
 returns-in-Err-clause-refused g c =
@@ -69,8 +62,7 @@ give_on-requires-clause-owing g c =
 
 pub returns-in-Ok-Back-clause-stays : goal.returns-in-Ok-Back-clause-stays
 returns-in-Ok-Back-clause-stays g c =
-    subst (λ old. StaysLinked old (record { recorded = c.pick.new.self; ends = c.give_on.new.ends })) c.self.view_is
-    (picked_stays (left g (goal.at.returns-in-Ok-Back-clause-stays g c).After-pick) c.self.inside.ends c.give_on.new.ends c.give_on.ensures.ends c.give_on.ensures.sees)
+    picked_stays (left g (goal.at.returns-in-Ok-Back-clause-stays g c).After-pick) c.self.inside.ends c.give_on.new.ends c.self.view_is c.give_on.ensures.ends c.give_on.ensures.sees
 
 pub returns-in-Ok-Back-clause-linked : goal.returns-in-Ok-Back-clause-linked
 returns-in-Ok-Back-clause-linked g c = λ linked rest.
@@ -86,46 +78,37 @@ returns-in-Ok-Back-clause-linked g c = λ linked rest.
 
 pub returns-in-Ok-Start-clause-picks : goal.returns-in-Ok-Start-clause-picks
 returns-in-Ok-Start-clause-picks g c =
-    picked_told (left g (goal.at.returns-in-Ok-Start-clause-picks g c).After-pick) c.args.self.now.recorded (ap (λ view. view.recorded) c.self.view_is) c.pick.ensures.ready c.pick.ensures.back _
-    (ap taken_of (sym (c.in-Ok-Start.is ∙ ap (λ turn. Ok turn) c.in-Ok-Start.field-0-is)))
+    picked_told (left g (goal.at.returns-in-Ok-Start-clause-picks g c).After-pick) c.self.view_is c.pick.ensures.ready c.pick.ensures.back _ (ap taken_of (sym (c.in-Ok-Start.is ∙ ap (λ turn. Ok turn) c.in-Ok-Start.field-0-is)))
 
 pub returns-in-Ok-Start-clause-linked : goal.returns-in-Ok-Start-clause-linked
-returns-in-Ok-Start-clause-linked g c = λ linked rest.
-    picked_linked (left g (goal.at.returns-in-Ok-Start-clause-linked g c).After-pick) c.self.inside.ends (λ sender. ap (λ one. owed_back one sender) (c.in-Ok-Start.is ∙ ap (λ turn. Ok turn) c.in-Ok-Start.field-0-is))
-    (subst (IsLinked g.J.Task.meaning) (sym c.self.view_is) linked) rest
+returns-in-Ok-Start-clause-linked g c =
+    picked_linked (left g (goal.at.returns-in-Ok-Start-clause-linked g c).After-pick) c.self.inside.ends c.self.view_is (λ sender. ap (λ one. owed_back one sender) (c.in-Ok-Start.is ∙ ap (λ turn. Ok turn) c.in-Ok-Start.field-0-is))
 
 pub returns-in-Ok-Resume-clause-picks : goal.returns-in-Ok-Resume-clause-picks
 returns-in-Ok-Resume-clause-picks g c =
-    picked_told (left g (goal.at.returns-in-Ok-Resume-clause-picks g c).After-pick) c.args.self.now.recorded (ap (λ view. view.recorded) c.self.view_is) c.pick.ensures.ready c.pick.ensures.back _
-    (ap taken_of (sym (c.in-Ok-Resume.is ∙ ap (λ turn. Ok turn) c.in-Ok-Resume.field-0-is)))
+    picked_told (left g (goal.at.returns-in-Ok-Resume-clause-picks g c).After-pick) c.self.view_is c.pick.ensures.ready c.pick.ensures.back _ (ap taken_of (sym (c.in-Ok-Resume.is ∙ ap (λ turn. Ok turn) c.in-Ok-Resume.field-0-is)))
 
 pub returns-in-Ok-Resume-clause-linked : goal.returns-in-Ok-Resume-clause-linked
-returns-in-Ok-Resume-clause-linked g c = λ linked rest.
-    picked_linked (left g (goal.at.returns-in-Ok-Resume-clause-linked g c).After-pick) c.self.inside.ends (λ sender. ap (λ one. owed_back one sender) (c.in-Ok-Resume.is ∙ ap (λ turn. Ok turn) c.in-Ok-Resume.field-0-is))
-    (subst (IsLinked g.J.Task.meaning) (sym c.self.view_is) linked) rest
+returns-in-Ok-Resume-clause-linked g c =
+    picked_linked (left g (goal.at.returns-in-Ok-Resume-clause-linked g c).After-pick) c.self.inside.ends c.self.view_is (λ sender. ap (λ one. owed_back one sender) (c.in-Ok-Resume.is ∙ ap (λ turn. Ok turn) c.in-Ok-Resume.field-0-is))
 
 pub returns-in-Ok-Idle-clause-picks : goal.returns-in-Ok-Idle-clause-picks
 returns-in-Ok-Idle-clause-picks g c =
-    picked_told (left g (goal.at.returns-in-Ok-Idle-clause-picks g c).After-pick) c.args.self.now.recorded (ap (λ view. view.recorded) c.self.view_is) c.pick.ensures.ready c.pick.ensures.back _
-    (ap taken_of (sym (c.in-Ok-Idle.is ∙ ap (λ turn. Ok turn) c.in-Ok-Idle.field-0-is)))
+    picked_told (left g (goal.at.returns-in-Ok-Idle-clause-picks g c).After-pick) c.self.view_is c.pick.ensures.ready c.pick.ensures.back _ (ap taken_of (sym (c.in-Ok-Idle.is ∙ ap (λ turn. Ok turn) c.in-Ok-Idle.field-0-is)))
 
 pub returns-in-Ok-Idle-clause-linked : goal.returns-in-Ok-Idle-clause-linked
-returns-in-Ok-Idle-clause-linked g c = λ linked rest.
-    picked_linked (left g (goal.at.returns-in-Ok-Idle-clause-linked g c).After-pick) c.self.inside.ends (λ sender. ap (λ one. owed_back one sender) (c.in-Ok-Idle.is ∙ ap (λ turn. Ok turn) c.in-Ok-Idle.field-0-is))
-    (subst (IsLinked g.J.Task.meaning) (sym c.self.view_is) linked) rest
+returns-in-Ok-Idle-clause-linked g c =
+    picked_linked (left g (goal.at.returns-in-Ok-Idle-clause-linked g c).After-pick) c.self.inside.ends c.self.view_is (λ sender. ap (λ one. owed_back one sender) (c.in-Ok-Idle.is ∙ ap (λ turn. Ok turn) c.in-Ok-Idle.field-0-is))
 
 pub returns-in-Err-clause-picks : goal.returns-in-Err-clause-picks
 returns-in-Err-clause-picks g c =
-    picked_told (left g (goal.at.returns-in-Err-clause-picks g c).After-pick) c.args.self.now.recorded (ap (λ view. view.recorded) c.self.view_is) c.pick.ensures.ready c.pick.ensures.back _
-    (ap taken_of (sym (c.in-Err.is)))
+    picked_told (left g (goal.at.returns-in-Err-clause-picks g c).After-pick) c.self.view_is c.pick.ensures.ready c.pick.ensures.back _ (ap taken_of (sym (c.in-Err.is)))
 
 pub returns-in-Err-clause-linked : goal.returns-in-Err-clause-linked
-returns-in-Err-clause-linked g c = λ linked rest.
-    picked_linked (left g (goal.at.returns-in-Err-clause-linked g c).After-pick) c.self.inside.ends (λ sender. ap (λ one. owed_back one sender) (c.in-Err.is))
-    (subst (IsLinked g.J.Task.meaning) (sym c.self.view_is) linked) rest
+returns-in-Err-clause-linked g c =
+    picked_linked (left g (goal.at.returns-in-Err-clause-linked g c).After-pick) c.self.inside.ends c.self.view_is (λ sender. ap (λ one. owed_back one sender) (c.in-Err.is))
 
 pub returns-in-Ok-Back-clause-picks : goal.returns-in-Ok-Back-clause-picks
 returns-in-Ok-Back-clause-picks g c =
     let here = goal.at.returns-in-Ok-Back-clause-picks g c in
-    picked_told (left g here.After-pick) c.args.self.now.recorded (ap (λ view. view.recorded) c.self.view_is) c.pick.ensures.ready c.pick.ensures.back _
-    (ap (λ one. Ok one) c.back-told.ensures ∙ ap taken_of (sym (told g here.In-Ok-Back)))
+    picked_told (left g here.After-pick) c.self.view_is c.pick.ensures.ready c.pick.ensures.back _ (ap (λ one. Ok one) c.back-told.ensures ∙ ap taken_of (sym (told g here.In-Ok-Back)))
