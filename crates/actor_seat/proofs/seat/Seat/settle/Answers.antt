@@ -1,4 +1,4 @@
-use Rattle.actor_seat.proofs.Names.{ap, arith, IsOut, IsOutUnder, length, outcome_settled, Settles, subst, sym, ◌<◌}
+use Rattle.actor_seat.proofs.Names.{ap, arith, IsOut, IsOutUnder, length, outcome_settled, Settles, subst, sym, ◌<◌, ◌≡◌}
 use Rattle.actor_seat.proofs.LentIn.{LeavesIn, LendsIn, its_in, settled_seated, settled_stays}
 use Rattle.actor_seat.proofs.Seen.{gives_seen}
 use Rattle.actor_seat.proofs.seat.Seat.settle.Given.{Over}
@@ -21,6 +21,10 @@ leaves g c = record {
   sound = c.settle.ensures.sound;
 }
 
+-- it has seen the same orders
+same : (g : Over) (c : After-settle g) → c.settle.new.end.inward.seen ≡ c.in_mut.result.now.inward.seen
+same g c = gives_seen c.in_mut.result.now.inward c.args.name.number (outcome_settled c.settle.result) c.settle.new.end.inward c.settle.ensures.gives
+
 pub in_mut-requires : goal.in_mut-requires
 in_mut-requires g c = omega (arith, c.self.invariant.beside.ins_are, c.requires.known, ap (λ view. view.recorded.core.cores) c.self.view_is)
 
@@ -37,16 +41,10 @@ pub returns-clause-settles : goal.returns-clause-settles
 returns-clause-settles g c = subst (λ view. Settles g.J.Task.meaning view.recorded c.args.ran c.args.spent c.settle.result c.settle.new.self) c.self.view_is c.settle.ensures.settles
 
 pub invariant_of-self : goal.invariant_of-self
-invariant_of-self g c =
-    let here = goal.at.invariant_of-self g c in
-    settled_seated (lends g here.After-in_mut) _ _ _ c.settle.ensures.settles (gives_seen c.in_mut.result.now.inward c.args.name.number (outcome_settled c.settle.result) c.settle.new.end.inward c.settle.ensures.gives) (leaves g here.After-settle)
+invariant_of-self g c = let here = goal.at.invariant_of-self g c in settled_seated (lends g here.After-in_mut) _ _ _ c.settle.ensures.settles (same g here.After-settle) (leaves g here.After-settle)
 
 pub returns-clause-seated : goal.returns-clause-seated
-returns-clause-seated g c =
-    let here = goal.at.returns-clause-seated g c in
-    settled_seated (lends g here.After-in_mut) _ _ _ c.settle.ensures.settles (gives_seen c.in_mut.result.now.inward c.args.name.number (outcome_settled c.settle.result) c.settle.new.end.inward c.settle.ensures.gives) (leaves g here.After-settle)
+returns-clause-seated g c = let here = goal.at.returns-clause-seated g c in settled_seated (lends g here.After-in_mut) _ _ _ c.settle.ensures.settles (same g here.After-settle) (leaves g here.After-settle)
 
 pub returns-clause-stays : goal.returns-clause-stays
-returns-clause-stays g c =
-    let here = goal.at.returns-clause-stays g c in
-    settled_stays (lends g here.After-in_mut) _ _ _ c.settle.ensures.settles (gives_seen c.in_mut.result.now.inward c.args.name.number (outcome_settled c.settle.result) c.settle.new.end.inward c.settle.ensures.gives) (leaves g here.After-settle)
+returns-clause-stays g c = let here = goal.at.returns-clause-stays g c in settled_stays (lends g here.After-in_mut) _ _ _ c.settle.ensures.settles (same g here.After-settle) (leaves g here.After-settle)
