@@ -3,6 +3,7 @@
 use crate::local::{here, wake_together, Local};
 use crate::shared::{lock, Queue};
 use std::any::Any;
+use std::arch::x86_64::{_mm_prefetch, _MM_HINT_ET0};
 use std::cell::UnsafeCell;
 use std::fmt;
 use std::future::Future;
@@ -248,6 +249,16 @@ impl Start {
         let answer = Mutex::new(Answer { value: None, caller: None, callee: None });
         let both = Arc::new(Both { is_given_up: AtomicBool::new(false), answer, work: UnsafeCell::new(Step::Makes(make)) });
         (Start(Arc::<Both<T, Step<_, F>>>::clone(&both)), Call(Some(both)))
+    }
+
+    /// Fetches its lines from the core that sent it, to be written to, while calls before it run. Else each is waited for.
+    pub(crate) fn fetch(&self) {
+        // The counts of an `Arc` stand before its value.
+        let (counts, value) = (2 * size_of::<usize>(), Arc::as_ptr(&self.0));
+        for line in (0..counts + size_of_val(&*self.0)).step_by(64) {
+            // SAFETY: a hint. Nothing is read or written.
+            unsafe { _mm_prefetch::<_MM_HINT_ET0>(value.cast::<i8>().wrapping_sub(counts).wrapping_add(line)) };
+        }
     }
 
     /// Starts it on this core, in this queue, whose run it is.

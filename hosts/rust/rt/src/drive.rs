@@ -173,7 +173,7 @@ impl<'a> Driver<'a> {
             if is_idle {
                 self.tell_quiet(has_told);
                 self.sleep(now, has_told, asks)?;
-            } else if asks {
+            } else if self.local.reactor.asks_between(now) {
                 self.local.reactor.wait(Duration::ZERO, Duration::MAX)?;
             } else {
                 continue;

@@ -234,6 +234,7 @@ impl Local {
         let (begins, began) = (&self.begins[queue as usize], self.began.get());
         let mut left = {
             let Begins { waiting, begun } = &mut *begins.borrow_mut();
+            calls.others.iter().for_each(Start::fetch);
             waiting.extend(calls.first.take().into_iter().chain(calls.others.drain(..)));
             calls.end.get_or_insert(*begun + waiting.len() as u64).saturating_sub(*begun)
         };

@@ -15,6 +15,9 @@ use std::rc::Rc;
 use std::task::{Context, Poll, Waker};
 use std::time::Duration;
 
+/// A core asks its reactor between two runs once so many nanoseconds are over.
+const BETWEEN_RUNS: u64 = 25_000;
+
 /// What a task waits for.
 #[derive(Clone, Copy, PartialEq, Eq)]
 pub(crate) enum Side {
@@ -146,6 +149,11 @@ impl Reactor {
     /// Whether a core that has work asks for events by now.
     pub(crate) fn asks(&self, now: u64) -> bool {
         now.saturating_sub(self.woke.get()) >= self.every
+    }
+
+    /// The same between two runs. These are short, or ask themselves.
+    pub(crate) fn asks_between(&self, now: u64) -> bool {
+        now.saturating_sub(self.woke.get()) >= self.every.max(BETWEEN_RUNS)
     }
 
     /// Wakes who waits for the events that came. False if there was no wait since the last time.

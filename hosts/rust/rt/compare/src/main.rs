@@ -1,14 +1,30 @@
-//! The example kv on tokio, as far as GET, SET and PING go: a runtime of one thread a core, keys sharded over them, and calls by channels.
+//! The example kv on tokio, as far as GET, SET and PING go: a runtime of one thread a core, keys sharded over them, and calls by channels. What reads
+//! commands, keeps the entries and writes answers is the example's own, without a log.
 //!
 //!     compare [--port 6379] [--cores 2] [--background TASKS]
 
 mod background;
 #[path = "../../examples/kv/resp.rs"]
+#[allow(dead_code)]
 mod resp;
+#[path = "../../examples/kv/shard.rs"]
+#[allow(dead_code)]
+mod shard;
 
+/// No log is kept.
+mod log {
+    pub const DELETED: u64 = u64::MAX;
+    pub const ALL_DELETED: u64 = u64::MAX - 1;
+    pub enum Log {}
+
+    pub fn append(log: &Log, _expires: u64, _key: &[u8], _value: &[u8]) {
+        match *log {}
+    }
+}
+
+use shard::{bulk, error, key_of, tell, text, Answer, Entry, Key, Shard};
 use socket2::{Domain, Protocol, Socket, Type};
 use std::cell::{Cell, RefCell};
-use std::collections::BTreeMap;
 use std::io;
 use std::net::SocketAddr;
 use std::rc::Rc;
@@ -23,81 +39,53 @@ use tokio::task::{spawn_local, LocalSet};
 /// A part of a command, and who is told its answer.
 enum Op {
     Get(Key),
-    Set(Key, Vec<u8>),
+    Set(Key, Entry),
 }
 
-type Asked = (Op, oneshot::Sender<Option<Vec<u8>>>);
-/// A key behind its hash, as the example has it.
-type Key = (u64, Vec<u8>);
-type Shard = Rc<RefCell<BTreeMap<Key, Vec<u8>>>>;
+type Asked = (Op, oneshot::Sender<Answer>);
 
-fn apply(shard: &Shard, op: Op) -> Option<Vec<u8>> {
+fn apply(shard: &RefCell<Shard>, op: Op) -> Answer {
     match op {
-        Op::Get(key) => shard.borrow().get(&key).cloned(),
-        Op::Set(key, value) => {
-            shard.borrow_mut().insert(key, value);
-            None
-        }
+        Op::Get(key) => shard.borrow_mut().value(key),
+        Op::Set(key, entry) => shard.borrow_mut().put(key, entry),
     }
 }
 
 struct Here {
     core: usize,
-    shard: Shard,
+    shard: Rc<RefCell<Shard>>,
     others: Arc<[mpsc::UnboundedSender<Asked>]>,
 }
 
 enum Does {
-    Now(String),
-    Got(Option<Vec<u8>>),
-    Asked(oneshot::Receiver<Option<Vec<u8>>>, bool),
-}
-
-fn key_of(bytes: &[u8]) -> Key {
-    let hash = bytes.iter().fold(0xcbf2_9ce4_8422_2325_u64, |hash, byte| (hash ^ u64::from(*byte)).wrapping_mul(0x100_0000_01b3));
-    ((hash ^ (hash >> 32)).wrapping_mul(0x9e37_79b9_7f4a_7c15), bytes.to_vec())
+    Here(Answer),
+    There(oneshot::Receiver<Answer>),
 }
 
 fn command(here: &Here, words: &[&[u8]]) -> Does {
     let name = words[0].to_ascii_uppercase();
-    let now = |text: &str| Does::Now(text.to_owned());
-    let (hash, op, is_get) = match (name.as_slice(), &words[1..]) {
+    let (hash, op) = match (name.as_slice(), &words[1..]) {
         (b"GET", [key]) => {
             let key = key_of(key);
-            (key.0, Op::Get(key), true)
+            (key.0, Op::Get(key))
         }
-        (b"SET", [key, value, ..]) => {
-            let key = key_of(key);
-            (key.0, Op::Set(key, value.to_vec()), false)
+        (b"SET", [key, value]) => {
+            let (entry, key) = (Entry { value: value.to_vec(), expires: 0 }, key_of(key));
+            (key.0, Op::Set(key, entry))
         }
-        (b"PING", _) => return now("+PONG\r\n"),
-        (b"CONFIG", _) => return now("*2\r\n$4\r\nsave\r\n$0\r\n\r\n"),
-        (b"INFO", _) => {
-            let text = format!("background_bytes:{}\r\n", background::bytes());
-            return Does::Now(format!("${}\r\n{text}\r\n", text.len()));
-        }
-        _ => return now("-ERR unknown command\r\n"),
+        (b"PING", _) => return Does::Here(text(b"+PONG\r\n")),
+        (b"CONFIG", [_, name]) => return Does::Here(text([b"*2\r\n", bulk(name).as_slice(), &bulk(b"")].concat())),
+        (b"INFO", _) => return Does::Here(text(bulk(format!("background_bytes:{}\r\n", background::bytes()).as_bytes()))),
+        _ => return Does::Here(error("unknown command")),
     };
     let core = (((hash >> 32) * here.others.len() as u64) >> 32) as usize;
     if core == here.core {
-        let told = apply(&here.shard, op);
-        return if is_get { Does::Got(told) } else { now("+OK\r\n") };
+        return Does::Here(apply(&here.shard, op));
     }
     let (answer, asked) = oneshot::channel();
     // The other end lives as long as the process.
     let _ = here.others[core].send((op, answer));
-    Does::Asked(asked, is_get)
-}
-
-fn write_bulk(out: &mut Vec<u8>, told: Option<Vec<u8>>) {
-    match told {
-        Some(bytes) => {
-            out.extend_from_slice(format!("${}\r\n", bytes.len()).as_bytes());
-            out.extend_from_slice(&bytes);
-            out.extend_from_slice(b"\r\n");
-        }
-        None => out.extend_from_slice(b"$-1\r\n"),
-    }
+    Does::There(asked)
 }
 
 async fn serve(here: Rc<Here>, mut stream: TcpStream) -> io::Result<()> {
@@ -120,13 +108,8 @@ async fn serve(here: Rc<Here>, mut stream: TcpStream) -> io::Result<()> {
         }
         for does in batch {
             match does {
-                Does::Now(text) => out.extend_from_slice(text.as_bytes()),
-                Does::Got(told) => write_bulk(&mut out, told),
-                Does::Asked(asked, true) => write_bulk(&mut out, asked.await.map_err(io::Error::other)?),
-                Does::Asked(asked, false) => {
-                    asked.await.map_err(io::Error::other)?;
-                    out.extend_from_slice(b"+OK\r\n");
-                }
+                Does::Here(answer) => tell(answer, &mut out),
+                Does::There(asked) => tell(asked.await.map_err(io::Error::other)?, &mut out),
             }
         }
         stream.write_all(&out).await?;
@@ -183,7 +166,7 @@ fn main() {
         .map(|(number, asked)| {
             let others = Arc::clone(&others);
             std::thread::spawn(move || {
-                let here = Here { core: number, shard: Shard::default(), others };
+                let here = Here { core: number, shard: Rc::default(), others };
                 let runtime = Builder::new_current_thread().enable_io().build().expect("a runtime");
                 LocalSet::new().block_on(&runtime, core(here, asked, port, background));
             })

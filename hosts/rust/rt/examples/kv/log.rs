@@ -3,10 +3,10 @@
 
 use crate::shard::{key_of, now, Entry, Shard};
 use crate::{shard, COMPACTION, REQUESTS};
-use fairexec_rt::fs::{Compaction, Fsync, Log};
+pub use fairexec_rt::fs::{Compaction, Fsync, Log};
 use fairexec_rt::{spawn_local, Here};
 use std::ops::Bound::{Excluded, Unbounded};
-use std::{fs, io, path::Path, process};
+use std::{fs, future::Future, io, path::Path, process};
 
 pub const DELETED: u64 = u64::MAX;
 pub const ALL_DELETED: u64 = u64::MAX - 1;
@@ -57,14 +57,16 @@ pub fn append(log: &Log, expires: u64, key: &[u8], value: &[u8]) {
     }
 }
 
-/// Waits until all that was appended is as safe as it has to be before this is answered.
-pub async fn safe<T>(answer: T) -> T {
+/// Waits until all that was appended is as safe as it has to be before this is answered. A call to another core carries this future, so it is small: a
+/// block has the answer once, where an `async fn` has it twice, and what waits is in a box.
+pub fn safe<T>(answer: T) -> impl Future<Output = T> {
     let log = shard().borrow().log.clone();
-    if let Some(log) = log {
-        // In a box, so that each call to another core has a small future.
-        or_exit(Box::pin(async move { log.safe().await }).await);
+    async move {
+        if let Some(log) = log {
+            or_exit(Box::pin(async move { log.safe().await }).await);
+        }
+        answer
     }
-    answer
 }
 
 /// Tells what each key has, in the place of all that was appended before.

@@ -17,8 +17,8 @@ use fairexec_rt::net::{Reads, TcpListener, TcpStream};
 use fairexec_rt::{spawn_local, stats, submit, yield_if_needed, Call, Executor, Here, JoinHandle, Journal, Pin, Queue};
 use futures_lite::AsyncWriteExt;
 use resp::{number, parse};
-use shard::{bulk, error, key_of, now, text, Answer, Entry, Key, Shard, NO_NUMBER};
-use std::{cell::RefCell, io, io::Write, iter::once, path::PathBuf, rc::Rc, time::Duration};
+use shard::{bulk, error, key_of, now, tell, text, Answer, Entry, Key, Shard, NO_NUMBER};
+use std::{cell::RefCell, io, iter::once, path::PathBuf, rc::Rc, time::Duration};
 
 const REQUESTS: Queue = Queue::FIRST;
 const COMPACTION: Queue = Queue::new(1);
@@ -45,7 +45,10 @@ fn on_core(here: &Here, core: u64, does: impl FnOnce(&mut Shard) -> Answer + Sen
     if core == u64::from(here.core()) {
         return Does::Here(does(&mut shard().borrow_mut()));
     }
-    Does::There(submit(core as u32, REQUESTS, || log::safe(does(&mut shard().borrow_mut()))))
+    Does::There(submit(core as u32, REQUESTS, || {
+        let answer = does(&mut shard().borrow_mut());
+        log::safe(answer)
+    }))
 }
 
 /// The core of a hash: each has as many hashes, and those of one core follow each other.
@@ -127,21 +130,7 @@ fn scan(here: &Here, cursor: &[u8], options: &[&[u8]]) -> Option<Does> {
     Some(on_core(here, core, move |it| it.scan(cursor, count, next_core)))
 }
 
-/// Puts an answer behind what was answered before.
-fn tell(answer: Answer, out: &mut Vec<u8>) {
-    match answer {
-        Answer::Int(count) => _ = write!(out, ":{count}\r\n"),
-        Answer::Value(None) => out.extend_from_slice(b"$-1\r\n"),
-        Answer::Value(Some(it)) => {
-            _ = write!(out, "${}\r\n", it.len());
-            out.extend_from_slice(&it);
-            out.extend_from_slice(b"\r\n");
-        }
-        Answer::Text(text) => out.extend_from_slice(&text),
-    }
-}
-
-/// The same for the parts of a command.
+/// Puts the answers of a command's parts behind what was answered before.
 async fn tell_all(parts: Vec<Does>, is_one: bool, out: &mut Vec<u8>) -> io::Result<()> {
     let mut sum = None;
     for (place, part) in parts.into_iter().enumerate() {

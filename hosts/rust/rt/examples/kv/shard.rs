@@ -1,9 +1,8 @@
 //! The keys of one core, and what commands do to them.
 
-use crate::log::{append, ALL_DELETED, DELETED};
+use crate::log::{append, Log, ALL_DELETED, DELETED};
 use crate::resp::number;
-use fairexec_rt::fs::Log;
-use std::{borrow::Cow, collections::BTreeMap, time::SystemTime};
+use std::{borrow::Cow, collections::BTreeMap, io::Write, time::SystemTime};
 
 /// Milliseconds since 1970.
 pub fn now() -> u64 {
@@ -28,6 +27,20 @@ pub fn error(why: &str) -> Answer {
 
 pub fn bulk(bytes: &[u8]) -> Vec<u8> {
     [format!("${}\r\n", bytes.len()).as_bytes(), bytes, b"\r\n"].concat()
+}
+
+/// Puts an answer behind what was answered before.
+pub fn tell(answer: Answer, out: &mut Vec<u8>) {
+    match answer {
+        Answer::Int(count) => _ = write!(out, ":{count}\r\n"),
+        Answer::Value(None) => out.extend_from_slice(b"$-1\r\n"),
+        Answer::Value(Some(it)) => {
+            _ = write!(out, "${}\r\n", it.len());
+            out.extend_from_slice(&it);
+            out.extend_from_slice(b"\r\n");
+        }
+        Answer::Text(text) => out.extend_from_slice(&text),
+    }
 }
 
 /// A key behind its hash, by which keys are in order: SCAN and the compaction go on behind any key.
