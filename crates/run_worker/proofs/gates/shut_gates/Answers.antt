@@ -1,4 +1,4 @@
-use Rattle.run_worker.proofs.Names.{arith, IsSome, refl, subst, sym, TellsNotes}
+use Rattle.run_worker.proofs.Names.{arith, IsSome, refl, subst, sym}
 use Rattle.run_worker.proofs.Gated.{shuts_none, shuts_more}
 use Rattle.run_worker.proofs.Telling.{tells_true, tells_false}
 use Rattle.run_worker.proofs.gates.shut_gates.Goals.{then-shut_unless, else-shut_unless}
@@ -14,14 +14,8 @@ pub loop-sender-preserved : goal.loop-sender-preserved
 loop-sender-preserved g c = record {
   first = shuts_more _ _ _ _ _ c.loop-sender.invariant.first c.shut_unless.ensures.leaves;
   tells = elim c.if-shut_unless.branch [
-    | then-shut_unless w ↦
-        subst (λ some. TellsNotes some c.args.seat.now.recorded.journal.notes c.shut_unless.new.seat.recorded.journal.notes) (sym w.some-is)
-        (tells_true c.args.seat.now.recorded.journal.notes c.loop-sender.seat.recorded.journal.notes c.shut_unless.new.seat.recorded.journal.notes c.loop-sender.invariant.first.stays.grows
-        (subst (λ found. TellsNotes found c.loop-sender.seat.recorded.journal.notes c.shut_unless.new.seat.recorded.journal.notes) w.if-shut_unless.true c.shut_unless.ensures.tells))
-    | else-shut_unless w ↦
-        subst (λ some. TellsNotes some c.args.seat.now.recorded.journal.notes c.shut_unless.new.seat.recorded.journal.notes) (sym w.some-is)
-        (tells_false c.loop-sender.some c.args.seat.now.recorded.journal.notes c.loop-sender.seat.recorded.journal.notes c.shut_unless.new.seat.recorded.journal.notes c.loop-sender.invariant.tells
-        (subst (λ found. TellsNotes found c.loop-sender.seat.recorded.journal.notes c.shut_unless.new.seat.recorded.journal.notes) w.if-shut_unless.false c.shut_unless.ensures.tells))
+    | then-shut_unless w ↦ rw w.some-is (tells_true _ c.loop-sender.seat.recorded.journal.notes _ c.loop-sender.invariant.first.stays.grows (rw w.if-shut_unless.true at c.shut_unless.ensures.tells))
+    | else-shut_unless w ↦ rw w.some-is (tells_false _ _ c.loop-sender.seat.recorded.journal.notes _ c.loop-sender.invariant.tells (rw w.if-shut_unless.false at c.shut_unless.ensures.tells))
   ];
   linked = c.shut_unless.ensures.linked;
   end = c.loop-sender.invariant.end;

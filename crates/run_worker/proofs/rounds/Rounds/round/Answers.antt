@@ -1,4 +1,4 @@
-use Rattle.run_worker.proofs.Names.{inl, inr, refl, round_view, ◌∙◌}
+use Rattle.run_worker.proofs.Names.{inl, inr, refl, ◌∙◌}
 use Rattle.run_worker.proofs.rounds.Rounds.round.Goals as goal
 
 pub returns-then-turn_alone-clause-makes : goal.returns-then-turn_alone-clause-makes
@@ -6,27 +6,11 @@ returns-then-turn_alone-clause-makes g c = inl (refl, rw c.if-turn_alone.true at
 
 pub returns-then-has_nothing-clause-makes : goal.returns-then-has_nothing-clause-makes
 returns-then-has_nothing-clause-makes g c =
-    inr (
-      round_view c.turn_alone.new.self.served c.turn_alone.new.self.timers c.turn_alone.new.self.watch c.turn_alone.new.self.gate c.turn_alone.new.self.turns,
-      rw c.if-turn_alone.false at c.turn_alone.ensures.alone,
-      (
-        round_view c.has_nothing.new.self.served c.has_nothing.new.self.timers c.has_nothing.new.self.watch c.has_nothing.new.self.gate c.has_nothing.new.self.turns,
-        c.has_nothing.ensures.peeks,
-        inr (c.has_nothing.ensures.idle c.if-has_nothing.true, c.has_nothing.ensures.none_due c.if-has_nothing.true, c.has_nothing.ensures.no_turn c.if-has_nothing.true, refl, refl),
-      ),
-    )
+    let idle = c.if-has_nothing.true in
+    inr (_, rw c.if-turn_alone.false at c.turn_alone.ensures.alone, (_, c.has_nothing.ensures.peeks, inr (c.has_nothing.ensures.idle idle, c.has_nothing.ensures.none_due idle, c.has_nothing.ensures.no_turn idle, refl, refl)))
 
 pub returns-clause-makes : goal.returns-clause-makes
-returns-clause-makes g c =
-    inr (
-      round_view c.turn_alone.new.self.served c.turn_alone.new.self.timers c.turn_alone.new.self.watch c.turn_alone.new.self.gate c.turn_alone.new.self.turns,
-      rw c.if-turn_alone.false at c.turn_alone.ensures.alone,
-      (
-        round_view c.has_nothing.new.self.served c.has_nothing.new.self.timers c.has_nothing.new.self.watch c.has_nothing.new.self.gate c.has_nothing.new.self.turns,
-        c.has_nothing.ensures.peeks,
-        inl c.look_again.ensures.all,
-      ),
-    )
+returns-clause-makes g c = inr (_, rw c.if-turn_alone.false at c.turn_alone.ensures.alone, (_, c.has_nothing.ensures.peeks, inl c.look_again.ensures.all))
 
 pub returns-clause-rung : goal.returns-clause-rung
 returns-clause-rung g c = c.look_again.ensures.rings
