@@ -18,19 +18,13 @@ IsRefused notes = (least room : ℕ) → EachNote (MayAct least room) notes → 
 
 -- it sends itself an order before any job is there
 sends_by_itself : IsRefused (Sent own (CloseCore Return) ∷ [])
-sends_by_itself least room acts = by_leave acts.0
-  where
-    by_leave : MayAct {T = ℕ} least room (Sent own (CloseCore Return)) [] → ⊥
-    by_leave (inl polls) = polls refl
-    by_leave (inr wake) = wake
+sends_by_itself least room (inl polls, _) = polls refl
+sends_by_itself least room (inr wake, _) = wake
 
 -- it sends itself a wake of a job that isn't parked
 wakes_one_awake : IsRefused (Sent own (Wake 1 1) ∷ [])
-wakes_one_awake least room acts = by_leave acts.0
-  where
-    by_leave : MayAct {T = ℕ} least room (Sent own (Wake 1 1)) [] → ⊥
-    by_leave (inl polls) = polls refl
-    by_leave (inr wake) = let parked = wake.1.1 in cc
+wakes_one_awake least room (inl polls, _) = polls refl
+wakes_one_awake least room (inr wake, _) = let parked = wake.1.1 in cc
 
 -- it sends a wake to another core
 wakes_elsewhere : (before : Journal ℕ) → jobs_out before ≡ [] → (least room : ℕ) → MayAct least room (Sent (record { from = 0; to = 1; number = 1 }) (Wake 1 1)) before → ⊥
@@ -39,11 +33,8 @@ wakes_elsewhere before none least room (inr wake) = omega (arith, wake.0)
 
 -- it lets go of a submission behind a poll that is settled
 lets_go_behind_a_poll : IsRefused (Detached own ∷ Done job 1 5 ∷ Sent own (CloseCore Return) ∷ Start job ∷ Pick 0 0 ∷ Took job 0 ∷ [])
-lets_go_behind_a_poll least room acts = by_leave acts.0
-  where
-    by_leave : MayAct {T = ℕ} least room (Detached own) (Done job 1 5 ∷ Sent own (CloseCore Return) ∷ Start job ∷ Pick 0 0 ∷ Took job 0 ∷ []) → ⊥
-    by_leave (inl polls) = polls refl
-    by_leave (inr wake) = wake
+lets_go_behind_a_poll least room (inl polls, _) = polls refl
+lets_go_behind_a_poll least room (inr wake, _) = wake
 
 -- behind a wake that it sent itself it lets go of another submission
 lets_go_of_another : (before : Journal ℕ) → jobs_out before ≡ [] → (least room : ℕ) → MayAct least room (Detached (record own { number = 2 })) (Sent own (Wake 1 1) ∷ before) → ⊥
@@ -56,11 +47,8 @@ redeems_behind_a_poll least room acts = acts.0 refl
 
 -- it closes by itself in mode `Finish`
 closes_to_finish : IsRefused (CoreClosed Finish ∷ [])
-closes_to_finish least room acts = no_reason acts.0
-  where
-    no_reason : MayAct {T = ℕ} least room (CoreClosed Finish) [] → ⊥
-    no_reason (inl asked) = cc
-    no_reason (inr short) = let returning = short.0 in cc
+closes_to_finish least room (inl asked, _) = cc
+closes_to_finish least room (inr short, _) = let returning = short.0 in cc
 
 -- it closes by itself behind more notes than its journal had room for
 closes_behind_its_room : (least : ℕ) → MayAct {T = ℕ} least 2 (CoreClosed Return) (Start job ∷ Pick 0 0 ∷ Took job 0 ∷ []) → ⊥

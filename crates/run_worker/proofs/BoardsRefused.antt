@@ -1,5 +1,5 @@
 -- Publications that are refused: left out, too early, once too often, stale, or on another board.
-use Rattle.run_worker.proofs.Names.{ap, arith, CantShow, inl, inr, IsShownWhole, Journal, length, refl, ShownView, Shows, ShowsAgain, ShowsEnd, ℕ, [], ◌∷◌, ◌≡◌, ◌≤◌, ◌⊎◌}
+use Rattle.run_worker.proofs.Names.{ap, arith, CantShow, inl, inr, IsShownWhole, Journal, length, refl, ShownView, Shows, ShowsAgain, ShowsEnd, ℕ, [], ◌∷◌, ◌≤◌}
 use Rattle.std.proofs.Common.{Bool, true, false}
 use Rattle.run_worker.proofs.SmallWorkers.{SmallWorker, board_of, linked_of, one_note, small_worker}
 
@@ -33,11 +33,10 @@ on_another_board (inr cant) = can_show 0 (omega arith) cant.0
 
 -- the board of a worker with one note that shows nothing yet
 behind_its_journal : IsShownWhole (linked_of one_note [] 9).recorded (board_of [] 0) → ⊥
-behind_its_journal shown = is_behind shown.whole
-  where
-    is_behind : ([] ≡ one_note) ⊎ CantShow one_note (board_of [] 0) → ⊥
-    is_behind (inl same) = let none = ap (λ (notes : Journal ℕ). length notes) same in omega (arith, none)
-    is_behind (inr cant) = can_show 0 (omega arith) cant
+behind_its_journal shown = elim shown.whole [
+  | inl same ↦ let none = ap (λ (notes : Journal ℕ). length notes) same in omega (arith, none)
+  | inr cant ↦ can_show 0 (omega arith) cant
+]
 
 -- 3 rounds were counted, and the numbers are published
 published_too_early : ShowsAgain (counting 3 (board_of [] 0)) (counting 0 (board_of one_note 1)) → ⊥

@@ -1,6 +1,6 @@
 -- What small workers leave at their end that is refused: a core that closed by itself, notes that are kept, a board that is behind, another sink.
 use Rattle.run_worker.proofs.Names.{ActsUnlessRefused, ap, arith, EndedView, HasEnded, inl, inr, IsBetweenTurns, JobId, Journal, KeepsOn, length, Meaning, Option, opened_beside, ServesToItsEnd, ShownView, Shows, sym, WorkerView, ℕ, [], ◌∙◌, ◌∷◌}
-use Rattle.run_worker.proofs.Names.{◌≡◌, ◌⊎◌}
+use Rattle.run_worker.proofs.Names.{◌≡◌}
 use Rattle.base_words.specs.declared.note.Note.TheVariants.{CoreClosed, Pick, Start, Took, Yield}
 use Rattle.base_words.specs.declared.order.Mode.TheVariants.{Return}
 use Rattle.run_worker.proofs.ServesRefused.{always, has, never, silent, taker, twice, unasked}
@@ -43,11 +43,7 @@ gives_another_sink worker ended was is keeps = omega (arith, was, is, keeps.mark
 module _ (meaning : Meaning ℕ ℕ) (sleeps : ℕ → Option ℕ) (reads : ℕ → ℕ → ℕ → Type 0) (asked : ℕ → ℕ → JobId → ℕ → Type 0) where
   -- its note isn't passed on, and its sink never refused
   keeps_at_its_end : HasEnded meaning has never (ended_with [] (board_of one_note 1)) → ⊥
-  keeps_at_its_end ended = is_kept ended.rest
-    where
-      is_kept : ([] ≡ one_note) ⊎ never [] 0 → ⊥
-      is_kept (inl same) = cc
-      is_kept (inr refused) = refused
+  keeps_at_its_end ended = elim ended.rest [ inl same ↦ cc | inr refused ↦ refused ]
 
   -- its board doesn't tell its last note
   ends_unpublished : (old : SmallWorker) → ServesToItsEnd meaning sleeps reads asked (taker never silent) old (ended_with one_note (board_of [] 1)) → ⊥

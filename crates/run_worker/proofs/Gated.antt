@@ -141,8 +141,7 @@ module _ {J T : Type 0} where
         by_return : (now : JournalView T) → WritesReturn old.recorded.journal now → EachNote (MayAct (least_free old.recorded.core.cores old.recorded.cap old.recorded.core.bursts.burst) old.recorded.journal.room) old.recorded.journal.notes →
             EachNote (MayAct (least_free old.recorded.core.cores old.recorded.cap old.recorded.core.bursts.burst) old.recorded.journal.room) now.notes
         by_return now (inl same) may = subst (λ journal. EachNote (MayAct (least_free old.recorded.core.cores old.recorded.cap old.recorded.core.bursts.burst) old.recorded.journal.room) journal.notes) (sym same) may
-        by_return now (inr wrote) may =
-            subst (λ journal. EachNote (MayAct (least_free old.recorded.core.cores old.recorded.cap old.recorded.core.bursts.burst) old.recorded.journal.room) journal.notes) (sym wrote) (inr (refl, omega (arith, spare), short), may)
+        by_return now (inr wrote) may = rw wrote (inr (refl, omega (arith, spare), short), may)
 
   -- a core that closes by itself and shuts its gates notes no poll
   pub ending_notes_none : (old middle new : LinkedView J T) (spared count : ℕ) → LeavesReturning old middle → ShutsFirst spared count middle new → NotesNoPoll old.recorded.journal.notes new.recorded.journal.notes
@@ -169,8 +168,7 @@ module _ {J T : Type 0} where
   taken_same : (sender : ℕ) (old new : LinkedView J T) → ShutsGate sender old new → KeepsTaken old new
   taken_same sender old new did other =
       ⊎_elim
-      (λ (is : other ≡ sender).
-      subst (λ one. (in_at one new.ends).inward.taken ≡ (in_at one old.ends).inward.taken) (sym is) (ap (λ inward. inward.taken) did.shuts.0))
+      (λ (is : other ≡ sender). rw is (ap (λ inward. inward.taken) did.shuts.0))
       (λ (away : other ≢ sender). ap (λ end. end.inward.taken) (did.others other away))
       (cases_eq other sender)
 
