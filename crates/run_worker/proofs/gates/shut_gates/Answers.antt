@@ -1,4 +1,4 @@
-use Rattle.run_worker.proofs.Names.{arith, IsSome, refl, subst, sym}
+use Rattle.run_worker.proofs.Names.{arith, refl}
 use Rattle.run_worker.proofs.Gated.{shuts_none, shuts_more}
 use Rattle.run_worker.proofs.Telling.{tells_true, tells_false}
 use Rattle.run_worker.proofs.gates.shut_gates.Goals.{then-shut_unless, else-shut_unless}
@@ -6,9 +6,6 @@ use Rattle.run_worker.proofs.gates.shut_gates.Goals as goal
 
 pub loop-sender-init : goal.loop-sender-init
 loop-sender-init g c = record { first = shuts_none c.args.spared c.args.seat.now; tells = refl; linked = c.requires.linked; end = omega (arith, c.requires.cores) }
-
-pub shut_unless-requires-clause-closed : goal.shut_unless-requires-clause-closed
-shut_unless-requires-clause-closed g c = subst (λ mode. IsSome mode) (sym c.loop-sender.invariant.first.mode) c.requires.closed
 
 pub loop-sender-preserved : goal.loop-sender-preserved
 loop-sender-preserved g c = record {

@@ -1,6 +1,6 @@
-use Rattle.run_worker.proofs.Names.{ap, arith, created_count, Entry, get_or_default, subst, sym, ◌+◌, ◌∙◌, ◌∷◌}
+use Rattle.run_worker.proofs.Names.{ap, arith, created_count, Entry, get_or_default, sym, ◌+◌, ◌∙◌, ◌∷◌}
 use Rattle.base_words.specs.declared.note.Note.TheVariants.{Created}
-use Rattle.run_worker.proofs.Creating.{IsCreating, creating_first, creating_left, creating_more, creating_on, creating_done, creating_noted}
+use Rattle.run_worker.proofs.Creating.{creating_first, creating_left, creating_more, creating_on, creating_done, creating_noted}
 use Rattle.run_worker.proofs.opening.create_all.Goals.{then-of-core+in_ok-create_one, else-of-core}
 use Rattle.run_worker.proofs.opening.create_all.Goals as goal
 
@@ -18,15 +18,13 @@ create_one-requires-clause-room g c =
 pub loop-index-preserved : goal.loop-index-preserved
 loop-index-preserved g c =
     elim c.if-of-core.branch [
-      | then-of-core+in_ok-create_one w ↦
-          subst (IsCreating g.J.Task.meaning c.args.core c.args.queues.now (c.loop-index.index + 1) c.args.recorded.now) (sym w.recorded-is)
+      | then-of-core+in_ok-create_one w ↦ rw w.recorded-is
           (creating_more c.args.core c.args.queues.now c.loop-index.index (c.loop-index.index + 1) (omega arith) c.loop-index-test.true c.index-queues-index.result _ c.loop-index.recorded c.loop-index.invariant
           (sym c.of.view_is ∙ w.if-of-core.true) w.create_one.new.recorded w.in_ok-create_one.ensures.since
           (w.in_ok-create_one.ensures.noted
           ∙ ap (λ (entry : Entry). Created (created_count c.loop-index.recorded.journal.notes + 1) entry.1 ∷ c.loop-index.recorded.journal.notes)
           (get_or_default c.args.queues.now c.loop-index.index c.index-queues-index-in-loop-index.result c.index-queues-index.result c.loop-index-test.true)))
-      | else-of-core w ↦
-          subst (IsCreating g.J.Task.meaning c.args.core c.args.queues.now (c.loop-index.index + 1) c.args.recorded.now) (sym w.recorded-is)
+      | else-of-core w ↦ rw w.recorded-is
           (creating_on c.args.core c.args.queues.now c.loop-index.index (c.loop-index.index + 1) (omega arith) c.loop-index-test.true c.index-queues-index.result _ c.loop-index.recorded c.loop-index.invariant
           (λ one. w.if-of-core.false (c.of.view_is ∙ one)))
     ]

@@ -1,4 +1,4 @@
-use Rattle.run_worker.proofs.Names.{ap, creations, opened_linked, sym, ◌∙◌}
+use Rattle.run_worker.proofs.Names.{ap, opened_linked, sym, ◌∙◌}
 use Rattle.run_worker.proofs.Opened.{opened_between, opened_acts}
 use Rattle.run_worker.proofs.opening.serve_core.Goals as goal
 
@@ -11,9 +11,3 @@ of-requires-clause-between g c = opened_between _ _ _ _ _ _ c.in_ok-recorded.rec
 
 pub of-requires-clause-acts : goal.of-requires-clause-acts
 of-requires-clause-acts g c = opened_acts _ _ _ _ _ _ c.in_ok-recorded.recorded c.in_ok-recorded.ensures.since
-
-pub returns-clause-queues : goal.returns-clause-queues
-returns-clause-queues g c =
-    ap (λ served. served.linked.recorded.journal.notes) c.of.ensures ∙ (c.in_ok-recorded.ensures.noted
-    ∙ (ap (λ core. creations core c.deref.result.now) (sym (ap (λ ends. ends.number) (sym c.ends.view_is) ∙ sym c.number.view_is))
-    ∙ ap (creations c.args.ends.number) c.deref.ensures.value))

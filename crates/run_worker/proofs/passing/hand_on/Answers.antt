@@ -5,9 +5,6 @@ use Rattle.run_worker.proofs.passing.hand_on.Goals as goal
 pub returns-clause-hands : goal.returns-clause-hands
 returns-clause-hands g c = record { answer = c.pass_on-answer.result; passes = c.pass_on-answer.ensures.passes; refusals = c.pass_on-answer.ensures.refusals; asked = c.pass_on-answer.ensures.asked; marked = c.pass_on-answer.ensures.marked; rest = c.pass_on-answer.ensures.rest }
 
-pub returns-clause-linked : goal.returns-clause-linked
-returns-clause-linked g c = c.pass_on-answer.ensures.linked c.requires.linked
-
 -- no turn is open with the same notes
 pub returns-clause-between : goal.returns-clause-between
 returns-clause-between g c =

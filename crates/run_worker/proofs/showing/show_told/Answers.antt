@@ -1,4 +1,4 @@
-use Rattle.run_worker.proofs.Names.{ap, closed_by_itself, false≢true, inl, inr, JournalView, refl, shown_of, subst, sym, ℕ, ◌+◌, ◌∙◌, ◌≡◌}
+use Rattle.run_worker.proofs.Names.{closed_by_itself, false≢true, inr, refl, shown_of, subst, sym, ◌∙◌, ◌≡◌}
 use Rattle.std.proofs.Common.{true}
 use Rattle.run_watch.specs.Tells as board
 use Rattle.run_worker.proofs.Published.{many_notes, queues_shown}
@@ -20,21 +20,7 @@ publish_own_closing-requires-clause-queues g c =
 pub publish_own_closing-requires-clause-closed : goal.publish_own_closing-requires-clause-closed
 publish_own_closing-requires-clause-closed g c = subst (λ journal. closed_by_itself journal.notes ≡ true) (sym c.journal-journal.ensures) (c.requires.alone c.if-alone.true)
 
-pub returns-then-alone : goal.returns-then-alone
-returns-then-alone g c =
-    inl (
-    ap shown_of c.publish_own_closing.ensures
-    ∙ ap (λ (journal : JournalView ℕ). record (shown_of c.args.publisher.now) { notes = journal.notes; count = c.args.publisher.now.count + 1 }) c.journal-journal.ensures
-    )
-
 pub publish-requires-clause-queues : goal.publish-requires-clause-queues
 publish-requires-clause-queues g c =
     let told = queues_shown c.args.recorded.now (shown_of c.args.publisher.now) c.requires.shown c.args.queues.now (c.requires.exact (c.are_exact.ensures.0 c.if-not-are_exact.false)) in
     subst (λ journal. board.TellsQueues c.args.publisher.now.terms.burst journal.notes c.args.queues.now) (sym c.journal-journal.ensures) told
-
-pub returns : goal.returns
-returns g c =
-    inl (
-    ap shown_of c.publish.ensures
-    ∙ ap (λ (journal : JournalView ℕ). record (shown_of c.args.publisher.now) { notes = journal.notes; count = c.args.publisher.now.count + 1 }) c.journal-journal.ensures
-    )

@@ -1,4 +1,4 @@
-use Rattle.run_worker.proofs.Names.{inl, inr, refl, ◌∙◌}
+use Rattle.run_worker.proofs.Names.{inl, inr, refl}
 use Rattle.run_worker.proofs.rounds.Rounds.round.Goals as goal
 
 pub returns-then-turn_alone-clause-makes : goal.returns-then-turn_alone-clause-makes
@@ -11,12 +11,3 @@ returns-then-has_nothing-clause-makes g c =
 
 pub returns-clause-makes : goal.returns-clause-makes
 returns-clause-makes g c = inr (_, rw c.if-turn_alone.false at c.turn_alone.ensures.alone, (_, c.has_nothing.ensures.peeks, inl c.look_again.ensures.all))
-
-pub returns-clause-rung : goal.returns-clause-rung
-returns-clause-rung g c = c.look_again.ensures.rings
-
-pub returns-clause-names : goal.returns-clause-names
-returns-clause-names g c = c.look_again.ensures.names ∙ (c.has_nothing.ensures.names ∙ c.turn_alone.ensures.names)
-
-pub returns-then-has_nothing-clause-names : goal.returns-then-has_nothing-clause-names
-returns-then-has_nothing-clause-names g c = c.has_nothing.ensures.names ∙ c.turn_alone.ensures.names

@@ -1,4 +1,4 @@
-use Rattle.run_worker.proofs.Names.{ActsAsItMay, ap, arith, collected_few, IsReady, IsServed, nat_lt, polls_of, subst, sym, ◌∙◌, ◌≡◌}
+use Rattle.run_worker.proofs.Names.{ap, arith, collected_few, IsReady, nat_lt, polls_of, subst, sym, ◌∙◌, ◌≡◌}
 use Rattle.run_worker.proofs.Alone.{knows_along}
 use Rattle.run_worker.proofs.Between.{between_behind}
 use Rattle.run_worker.proofs.Spare.{places_few}
@@ -15,11 +15,9 @@ collect_from-requires-clause-room g c =
 
 pub invariant_of-self : goal.invariant_of-self
 invariant_of-self g c = (
-  subst (λ ending. IsServed g.J.Task.meaning (record { linked = c.collect_from.new.self; ending = ending })) (sym c.if-self.false)
-      (collects_served c.args.core c.collect_from.result c.self.inside.seat c.collect_from.new.self (c.collect_from.ensures.linked c.self.invariant.0.linked)
+  rw c.if-self.false (collects_served c.args.core c.collect_from.result c.self.inside.seat c.collect_from.new.self (c.collect_from.ensures.linked c.self.invariant.0.linked)
       (between_behind _ _ c.collect_from.ensures.does.stays (collects_note_none c.args.core c.collect_from.result _ _ c.collect_from.ensures.does) c.self.invariant.0.between) c.collect_from.ensures.does
-      (subst (λ ending. IsReady ending c.self.inside.seat.recorded) c.if-self.false (subst (λ view. IsReady view.ending view.linked.recorded) (sym c.self.view_is) c.look.ensures.ready))
-      (subst (λ ending. ActsAsItMay ending c.self.inside.seat.recorded) c.if-self.false c.self.invariant.0.acts)),
+      (subst (λ ending. IsReady ending c.self.inside.seat.recorded) c.if-self.false (subst (λ view. IsReady view.ending view.linked.recorded) (sym c.self.view_is) c.look.ensures.ready)) (rw c.if-self.false at c.self.invariant.0.acts)),
   knows_along c.self.inside.cores c.self.inside.least c.self.inside.alone c.self.inside.seat c.collect_from.new.self c.collect_from.ensures.does.stays c.self.invariant.1,
 )
 

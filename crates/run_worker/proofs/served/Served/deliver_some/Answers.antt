@@ -48,6 +48,3 @@ pub returns-clause-hears : goal.returns-clause-hears
 returns-clause-hears g c =
     let all : c.loop-count.count ≡ c.cap-cap.result = omega (arith, c.loop-count.auto, c.loop-count-test.false) in
     all_heard c.args.sender c.loop-count.count c.args.self.now c.loop-count.self (all ∙ c.loop-count.invariant.cap_is) c.loop-count.invariant.many
-
-pub returns-then-not-deliver_one-clause-polls : goal.returns-then-not-deliver_one-clause-polls
-returns-then-not-deliver_one-clause-polls g c = c.deliver_one.ensures.polls ∙ c.loop-count.invariant.polls

@@ -1,4 +1,4 @@
-use Rattle.run_worker.proofs.Names.{ActsAsItMay, ap, arith, core_mode, in_at, IsReady, IsServed, IsSome, polls_of, subst, sym, ◌+◌, ◌∙◌, ◌≡◌}
+use Rattle.run_worker.proofs.Names.{ap, arith, core_mode, IsReady, IsSome, subst, sym, ◌+◌, ◌∙◌, ◌≡◌}
 use Rattle.run_worker.proofs.Alone.{knows_along}
 use Rattle.run_worker.proofs.Between.{between_behind}
 use Rattle.run_worker.proofs.Looked.{still_closed}
@@ -9,19 +9,14 @@ use Rattle.run_worker.proofs.served.Served.shut_if_closed.Goals as goal
 
 pub invariant_of-self : goal.invariant_of-self
 invariant_of-self g c = (
-  subst (λ ending. IsServed g.J.Task.meaning (record { linked = c.shut_gates.new.seat; ending = ending })) (sym c.if-self.false)
-      (shuts_served c.self.inside.seat c.shut_gates.new.seat c.shut_gates.ensures.linked
+  rw c.if-self.false (shuts_served c.self.inside.seat c.shut_gates.new.seat c.shut_gates.ensures.linked
       (between_behind _ _ c.shut_gates.ensures.shuts.stays c.shut_gates.ensures.shuts.polls c.self.invariant.0.between) c.shut_gates.ensures.shuts
-      (subst (λ ending. IsReady ending c.self.inside.seat.recorded) c.if-self.false (subst (λ view. IsReady view.ending view.linked.recorded) (sym c.self.view_is) c.look.ensures.ready))
-      (subst (λ ending. ActsAsItMay ending c.self.inside.seat.recorded) c.if-self.false c.self.invariant.0.acts)),
+      (subst (λ ending. IsReady ending c.self.inside.seat.recorded) c.if-self.false (subst (λ view. IsReady view.ending view.linked.recorded) (sym c.self.view_is) c.look.ensures.ready)) (rw c.if-self.false at c.self.invariant.0.acts)),
   knows_along c.self.inside.cores c.self.inside.least c.self.inside.alone c.self.inside.seat c.shut_gates.new.seat c.shut_gates.ensures.shuts.stays c.self.invariant.1,
 )
 
 pub returns-clause-shuts : goal.returns-clause-shuts
 returns-clause-shuts g c = λ some sender known spare. (c.shut_gates.ensures.shuts.shut sender (omega (arith, known, c.shut_gates.ensures.shuts.stays.seat.cores)) spare).gate
-
-pub returns-clause-polls : goal.returns-clause-polls
-returns-clause-polls g c = c.shut_gates.ensures.shuts.polls ∙ (ap (λ view. polls_of view.linked.recorded.journal.notes) c.self.view_is ∙ c.look.ensures.polls)
 
 pub returns-then-self-clause-steps : goal.returns-then-self-clause-steps
 returns-then-self-clause-steps g c = looked_alone _ c.args.self.now c.look.new.self c.look.ensures.looks c.look.ensures.stays
@@ -30,12 +25,6 @@ returns-then-self-clause-steps g c = looked_alone _ c.args.self.now c.look.new.s
 pub returns-then-self-clause-shuts : goal.returns-then-self-clause-shuts
 returns-then-self-clause-shuts g c = λ some sender known spare.
     (subst (λ ending. IsReady ending c.look.new.self.linked.recorded) (sym (ap (λ view. view.ending) c.self.view_is) ∙ c.if-self.true) c.look.ensures.ready).gates sender known
-
-pub returns-then-self-clause-taken : goal.returns-then-self-clause-taken
-returns-then-self-clause-taken g c = λ same sender. ap (λ view. (in_at sender view.linked.ends).inward.taken) (c.look.ensures.looks.same same)
-
-pub returns-then-self-clause-polls : goal.returns-then-self-clause-polls
-returns-then-self-clause-polls g c = c.look.ensures.polls
 
 pub shut_gates-requires-clause-closed : goal.shut_gates-requires-clause-closed
 shut_gates-requires-clause-closed g c =
@@ -52,8 +41,3 @@ returns-clause-steps g c =
     let cores : c.self.inside.seat.recorded.core.cores ≡ c.args.self.now.linked.recorded.core.cores = ap (λ view. view.linked.recorded.core.cores) c.self.view_is ∙ c.look.ensures.stays.seat.cores in
     looked_steps (c.args.self.now.linked.recorded.core.cores + 1) c.args.self.now c.look.new.self (record { linked = c.self.inside.seat; ending = c.self.inside.ending }) c.shut_gates.new.seat c.shut_gates.result c.self.view_is
     c.look.ensures.looks c.look.ensures.stays c.shut_gates.ensures.shuts.stays c.shut_gates.ensures.tells (omega (arith, c.shut_gates.ensures.shuts.longer, cores))
-
-pub returns-clause-taken : goal.returns-clause-taken
-returns-clause-taken g c = λ same sender.
-    c.shut_gates.ensures.shuts.taken sender
-    ∙ ap (λ view. (in_at sender view.linked.ends).inward.taken) (c.self.view_is ∙ c.look.ensures.looks.same (sym (ap (λ view. view.ending) c.self.view_is) ∙ same))

@@ -32,9 +32,3 @@ pub returns-clause-rung : goal.returns-clause-rung
 returns-clause-rung g c =
     since_rung c.args.self.now c.deliver_all-delivered.new.self c.journal.result.now c.journal-2.result.now c.kept_count-before.result c.journal.ensures.journal c.journal-2.ensures.journal c.kept_count-before.ensures.value
     (stays_along _ _ _ c.close_gates-shut.ensures.steps.stays c.deliver_all-delivered.ensures.steps.stays) c.args.bells.now c.ring_since.new.bells c.requires.rung (ap (λ (bells : BellsView). bells.rings) c.ring_since.ensures)
-
-pub returns-clause-sound : goal.returns-clause-sound
-returns-clause-sound g c = c.journal-2.ensures.sound
-
-pub returns-clause-polls : goal.returns-clause-polls
-returns-clause-polls g c = c.deliver_all-delivered.ensures.polls ∙ c.close_gates-shut.ensures.polls

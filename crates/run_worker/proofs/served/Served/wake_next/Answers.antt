@@ -1,4 +1,4 @@
-use Rattle.run_worker.proofs.Names.{ActsAsItMay, ap, arith, HasParked, IsBetweenTurns, IsReady, IsServed, JobId, KnowsSeat, LinkedView, own_job, polls_of, refl, ServedView, StepsServed, subst, sym, WakesNext, WakesOwn, ◌∙◌, ◌≡◌}
+use Rattle.run_worker.proofs.Names.{ActsAsItMay, ap, arith, HasParked, IsBetweenTurns, IsReady, JobId, KnowsSeat, LinkedView, own_job, polls_of, refl, ServedView, StepsServed, subst, sym, WakesNext, WakesOwn, ◌∙◌, ◌≡◌}
 use Rattle.std.specs.Prelude.{false}
 use Rattle.run_worker.specs.declared.waking.Due.TheVariants.{Sent, Awake, Refused}
 use Rattle.core_queues.specs.Waking.{FindsNoPark}
@@ -26,11 +26,6 @@ returns-then-self-clause-steps g c = looked_alone 2 c.args.self.now c.look.new.s
 
 pub returns-in_default-clause-steps : goal.returns-in_default-clause-steps
 returns-in_default-clause-steps g c = looked_alone 2 c.args.self.now c.look.new.self c.look.ensures.looks c.look.ensures.stays
-
-pub returns-in_default-clause-wakes : goal.returns-in_default-clause-wakes
-returns-in_default-clause-wakes g c going =
-    let here = goal.at.returns-in_default-clause-wakes g c in
-    (c.in_default.ensures.none, ap (λ (view : ServedView _ _). view.linked) (looked g here.After-look going), refl)
 
 pub returns-then-not-is_parked-clause-steps : goal.returns-then-not-is_parked-clause-steps
 returns-then-not-is_parked-clause-steps g c = looked_alone 2 c.args.self.now c.look.new.self c.look.ensures.looks c.look.ensures.stays
@@ -82,15 +77,12 @@ wakes : (g : Over) (c : After-wake_own g) → WakesOwn (own_job c.self.inside.se
 wakes g c = subst (λ job. WakesOwn job c.self.inside.seat c.wake_own.result c.wake_own.new.self) (named g c) c.wake_own.ensures.wakes
 
 pub wake_own-requires : goal.wake_own-requires
-wake_own-requires g c = record {
-  room = omega (arith, ready_room c.self.inside.seat c.self.invariant.0.linked c.self.inside.ending (subst (λ (view : ServedView _ _). IsReady view.ending view.linked.recorded) (sym c.self.view_is) c.look.ensures.ready));
-}
+wake_own-requires g c = record { room = omega (arith, ready_room c.self.inside.seat c.self.invariant.0.linked c.self.inside.ending (subst (λ (view : ServedView _ _). IsReady view.ending view.linked.recorded) (sym c.self.view_is) c.look.ensures.ready)) }
 
 pub invariant_of-self : goal.invariant_of-self
 invariant_of-self g c =
     let here = (goal.at.invariant_of-self g c).After-wake_own in (
-      subst (λ ending. IsServed g.J.Task.meaning (record { linked = c.wake_own.new.self; ending = ending })) (sym c.if-self.false)
-          (refused_served c.self.inside.seat c.wake_own.new.self c.own_job-job.result c.self.invariant.0.linked (c.wake_own.ensures.linked c.self.invariant.0.linked) c.self.invariant.0.between (between g here) c.wake_own.ensures.stays (ready g here) (acts g here)
+      rw c.if-self.false (refused_served c.self.inside.seat c.wake_own.new.self c.own_job-job.result c.self.invariant.0.linked (c.wake_own.ensures.linked c.self.invariant.0.linked) c.self.invariant.0.between (between g here) c.wake_own.ensures.stays (ready g here) (acts g here)
           c.if-not-wake_own.ensures.wakes),
       knows g here,
     )
@@ -99,16 +91,10 @@ pub invariant_of-self-2 : goal.invariant_of-self-2
 invariant_of-self-2 g c =
     let here = (goal.at.invariant_of-self-2 g c).After-wake_own in
     let it = parked g here in (
-      subst (λ ending. IsServed g.J.Task.meaning (record { linked = c.wake_own.new.self; ending = ending })) (sym c.if-self.false)
-          (sent_served c.self.inside.seat c.wake_own.new.self c.own_job-job.result c.self.invariant.0.linked (c.wake_own.ensures.linked c.self.invariant.0.linked) c.self.invariant.0.between (between g here) c.wake_own.ensures.stays (ready g here) (acts g here)
+      rw c.if-self.false (sent_served c.self.inside.seat c.wake_own.new.self c.own_job-job.result c.self.invariant.0.linked (c.wake_own.ensures.linked c.self.invariant.0.linked) c.self.invariant.0.between (between g here) c.wake_own.ensures.stays (ready g here) (acts g here)
           (ap (λ (job : JobId). job.to) (named g here)) it.0 it.1 c.if-not-wake_own.ensures.wakes),
       knows g here,
     )
-
-pub returns-then-not-wake_own-clause-steps : goal.returns-then-not-wake_own-clause-steps
-returns-then-not-wake_own-clause-steps g c =
-    let here = (goal.at.returns-then-not-wake_own-clause-steps g c).After-wake_own in
-    subst (λ taken. StepsServed 2 c.args.self.now taken (record { linked = c.wake_own.new.self; ending = c.self.inside.ending })) c.if-not-wake_own.true (steps g here)
 
 pub returns-then-not-wake_own-clause-wakes : goal.returns-then-not-wake_own-clause-wakes
 returns-then-not-wake_own-clause-wakes g c going =
@@ -122,8 +108,7 @@ returns-then-not-wake_own-clause-wakes g c going =
     )
 
 pub returns-then-not-wake_own-clause-polls : goal.returns-then-not-wake_own-clause-polls
-returns-then-not-wake_own-clause-polls g c =
-    own_notes_none c.own_job-job.result c.wake_own.result _ _ c.wake_own.ensures.wakes ∙ (ap (λ (view : ServedView _ _). polls_of view.linked.recorded.journal.notes) c.self.view_is ∙ c.look.ensures.polls)
+returns-then-not-wake_own-clause-polls g c = own_notes_none _ _ _ _ c.wake_own.ensures.wakes ∙ (ap (λ (view : ServedView _ _). polls_of view.linked.recorded.journal.notes) c.self.view_is ∙ c.look.ensures.polls)
 
 pub returns-clause-steps : goal.returns-clause-steps
 returns-clause-steps g c =
@@ -142,5 +127,4 @@ returns-clause-wakes g c going =
     )
 
 pub returns-clause-polls : goal.returns-clause-polls
-returns-clause-polls g c =
-    own_notes_none c.own_job-job.result c.wake_own.result _ _ c.wake_own.ensures.wakes ∙ (ap (λ (view : ServedView _ _). polls_of view.linked.recorded.journal.notes) c.self.view_is ∙ c.look.ensures.polls)
+returns-clause-polls g c = own_notes_none _ _ _ _ c.wake_own.ensures.wakes ∙ (ap (λ (view : ServedView _ _). polls_of view.linked.recorded.journal.notes) c.self.view_is ∙ c.look.ensures.polls)

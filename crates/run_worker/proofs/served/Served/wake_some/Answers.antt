@@ -33,9 +33,6 @@ pub returns-then-is_over-clause-wakes : goal.returns-then-is_over-clause-wakes
 returns-then-is_over-clause-wakes g c going =
     due_over _ _ _ _ _ _ (c.loop-count.invariant.woken (not_before _ _ c.wake_next-due.ensures.steps.ended going)) c.wake_next-due.result _ _ (sym c.is_over.ensures ∙ c.if-is_over.true) (c.wake_next-due.ensures.wakes going)
 
-pub returns-then-is_over-clause-polls : goal.returns-then-is_over-clause-polls
-returns-then-is_over-clause-polls g c = c.wake_next-due.ensures.polls ∙ c.loop-count.invariant.polls
-
 pub returns-clause-steps : goal.returns-clause-steps
 returns-clause-steps g c =
     let all : c.loop-count.count ≡ c.args.self.now.linked.recorded.cap = omega (arith, c.loop-count.auto, c.loop-count-test.false, c.loop-count.invariant.cap_is) in

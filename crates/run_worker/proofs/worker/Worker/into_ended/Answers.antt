@@ -1,4 +1,4 @@
-use Rattle.run_worker.proofs.Names.{ap, HandsOn, IsBetweenTurns, IsDrained, IsLinked, shown_of, Shows, subst, sym, WorkerView, ◌∙◌}
+use Rattle.run_worker.proofs.Names.{HandsOn, IsDrained, shown_of, Shows, subst, sym, WorkerView}
 use Rattle.run_worker.proofs.GivenBack.{given_back}
 use Rattle.run_worker.proofs.Published.{shown_now}
 use Rattle.run_worker.proofs.worker.Worker.into_ended.Given.{Over}
@@ -14,20 +14,6 @@ of-requires g c =
     given_back g.S.Sink c.self.inside.rounds.served c.hand_on.new.seat c.self.inside.sink c.hand_on.new.sink c.self.invariant.2 (hands g (goal.at.of-requires g c).After-hand_on) (shown_of c.show_on.new.publisher)
     c.into_seat-seat.ensures.sound (subst (λ view. IsDrained view.linked.recorded.core.cores view.linked.recorded.journal.notes) (sym c.self.view_is) c.requires) c.hand_on.ensures.linked c.hand_on.ensures.between
     (shown_now c.self.inside.rounds.served.linked.recorded _ _ c.self.invariant.3 c.show_on.ensures)
-
-pub hand_on-requires-clause-passed : goal.hand_on-requires-clause-passed
-hand_on-requires-clause-passed g c = c.self.invariant.2.passed ∙ sym (ap (λ linked. linked.recorded.journal.passed) c.into_seat-seat.ensures.same)
-
-pub hand_on-requires-clause-linked : goal.hand_on-requires-clause-linked
-hand_on-requires-clause-linked g c = subst (IsLinked g.J.Task.meaning) (sym c.into_seat-seat.ensures.same) c.into_seat-seat.ensures.sound.linked
-
-pub hand_on-requires-clause-between : goal.hand_on-requires-clause-between
-hand_on-requires-clause-between g c = subst (λ linked. IsBetweenTurns linked.recorded) (sym c.into_seat-seat.ensures.same) c.into_seat-seat.ensures.sound.between
-
-pub returns-clause-hands : goal.returns-clause-hands
-returns-clause-hands g c =
-    subst (λ ended. HandsOn g.S.Sink c.args.self.linked c.args.self.sink ended.linked ended.sink) (sym c.of.ensures)
-    (subst (λ (worker : WorkerView _ _ _ _ _). HandsOn g.S.Sink worker.linked worker.sink c.hand_on.new.seat c.hand_on.new.sink) c.self.view_is (hands g (goal.at.returns-clause-hands g c).After-hand_on))
 
 pub returns-clause-shows : goal.returns-clause-shows
 returns-clause-shows g c =

@@ -29,9 +29,6 @@ returns-then-is_drained-clause-keeps g c =
       marked = c.into_ended.ensures.hands.marked ∙ lives.marked;
     }
 
-pub returns-then-is_drained-clause-serves : goal.returns-then-is_drained-clause-serves
-returns-then-is_drained-clause-serves g c = record { last = c.loop.worker; serves = c.loop.invariant.2; shows = c.into_ended.ensures.shows; hands = c.into_ended.ensures.hands }
-
 pub returns-then-is_drained-clause-asks : goal.returns-then-is_drained-clause-asks
 returns-then-is_drained-clause-asks g c = (
   c.loop.worker.gate,
