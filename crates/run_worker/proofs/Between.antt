@@ -42,8 +42,7 @@ module _ {T : Type 0} where
   -- notes that begin no poll leave no turn open
   pub still_between : (burst : ℕ) (old new : Journal T) → Grows old new → NotesNoPoll old new → queue_in_turn burst old ≡ None → queue_in_turn burst new ≡ None
   still_between burst old new grows none was =
-      subst (λ notes. queue_in_turn burst notes ≡ None) (sym grows.1)
-      (in_form (has_bursts burst) (queue_begun_last old) (queue_begun_last (grows.0 ++ old)) (still_none grows.0 old (subst (NotesNoPoll old) grows.1 none)) was)
+      rw grows.1 (in_form (has_bursts burst) (queue_begun_last old) (queue_begun_last (grows.0 ++ old)) (still_none grows.0 old (subst (NotesNoPoll old) grows.1 none)) was)
 
   -- creations open no turn
   none_created : (notes : Journal T) → IsOpening notes → queue_begun_last notes ≡ None

@@ -43,9 +43,7 @@ module _ {J T : Type 0} {meaning : Meaning J T} (core : ℕ) (queues : List Entr
       count = was.count + 1;
       left = subst (λ place. was.count + 1 + queues_of core (drop place queues) ≡ queues_of core queues) (sym is_next) (omega (arith, was.left, queues_here queues index none low core here));
       created = created_more was.count 1 (was.count + 1) old now new (omega arith) was.created one;
-      noted =
-          subst (λ place. behind_entries core (drop place queues) new.journal.notes ≡ behind_entries core queues old.journal.notes) (sym is_next)
-          (ap (behind_entries core (drop (suc index) queues)) noted ∙ (sym (entry_here queues index none low core here now.journal.notes) ∙ was.noted));
+      noted = rw is_next (ap (behind_entries core (drop (suc index) queues)) noted ∙ (sym (entry_here queues index none low core here now.journal.notes) ∙ was.noted));
     }
 
     pub creating_on : (get_or queues index none).0 ≢ core → IsCreating meaning core queues next old now
@@ -53,9 +51,7 @@ module _ {J T : Type 0} {meaning : Meaning J T} (core : ℕ) (queues : List Entr
       count = was.count;
       left = subst (λ place. was.count + queues_of core (drop place queues) ≡ queues_of core queues) (sym is_next) (omega (arith, was.left, queues_away queues index none low core away));
       created = was.created;
-      noted =
-          subst (λ place. behind_entries core (drop place queues) now.journal.notes ≡ behind_entries core queues old.journal.notes) (sym is_next)
-          (sym (entry_away queues index none low core away now.journal.notes) ∙ was.noted);
+      noted = rw is_next (sym (entry_away queues index none low core away now.journal.notes) ∙ was.noted);
     }
 
   pub creating_done : (index : ℕ) (old now : RecordedView J T) → length queues ≤ index → IsCreating meaning core queues index old now → CreatesSince meaning (queues_of core queues) old now

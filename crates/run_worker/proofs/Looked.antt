@@ -86,8 +86,7 @@ module _ {J T C G : Type 0} (meaning : Meaning J T) (sleeps : J → Option ℕ) 
   rest_asks was_idle old new some (peeked, peeks, inl looks) =
       asks_then asked (core_in old) (core_in peeked) (notes_in old) (notes_in peeked) (notes_in new) old.gate peeked.gate new.gate (ap (λ (served : ServedView J T). served.linked.recorded.core.core) (peeks_served old peeked peeks))
       (peek_asks old peeked peeks) (look_asks peeked new some looks)
-  rest_asks was_idle old new some (peeked, peeks, inr none) =
-      subst (λ (view : RoundView J T C G). Asks old view) (sym none.4) (peek_asks old peeked peeks)
+  rest_asks was_idle old new some (peeked, peeks, inr none) = subst (λ (view : RoundView J T C G). Asks old view) (sym none.4) (peek_asks old peeked peeks)
 
   -- what it keeps
   links_steps : (old new : RoundView J T C G) (some : Bool) → LooksAtLinks meaning sleeps reads asked old some new →
@@ -106,15 +105,12 @@ module _ {J T C G : Type 0} (meaning : Meaning J T) (sleeps : J → Option ℕ) 
   pub look_steps : (old new : RoundView J T C G) (some : Bool) → LooksAtAll meaning sleeps reads asked old some new → StepsServed (round_most old.served) old.served some new.served
   look_steps old new some looks =
       let recorded = old.served.linked.recorded in
-      subst (λ some. StepsServed (round_most old.served) old.served some new.served) (sym looks.tells)
-      (steps_more (woken_most old.served) _ (round_most old.served) looks.woke looks.found old.served looks.woken.served new.served
+      rw looks.tells (steps_more (woken_most old.served) _ (round_most old.served) looks.woke looks.found old.served looks.woken.served new.served
       (omega (arith, round_few recorded.core.cores recorded.cap recorded.core.bursts.burst, links_along recorded looks.woken.served.linked.recorded looks.wakes.steps.stays.seat))
       looks.wakes.steps (links_steps looks.woken new looks.found looks.looks))
 
   alone_steps : (old new : RoundView J T C G) (some : Bool) → TurnsAlone meaning sleeps reads asked old some new → StepsServed (turn_most old.served) old.served some new.served
-  alone_steps old new some (inl none) =
-      subst (λ some. StepsServed (turn_most old.served) old.served some new.served) (sym none.1)
-      (subst (λ (view : RoundView J T C G). StepsServed (turn_most old.served) old.served false view.served) (sym none.2) (steps_none (turn_most old.served) old.served))
+  alone_steps old new some (inl none) = rw (none.1, none.2) (steps_none (turn_most old.served) old.served)
   alone_steps old new some (inr (passes, turn, steps, sets)) = steps
 
   -- no turn without a look, or one for which there was no work, which looks at the room once and writes nothing
@@ -134,9 +130,7 @@ module _ {J T C G : Type 0} (meaning : Meaning J T) (sleeps : J → Option ℕ) 
   rest_steps : (was_idle : Bool) (old new : RoundView J T C G) (some : Bool) → LooksOrRests meaning sleeps reads asked was_idle old some new → StepsServed (round_most old.served) old.served some new.served
   rest_steps was_idle old new some (peeked, peeks, inl looks) =
       subst (λ (served : ServedView J T). StepsServed (round_most served) served some new.served) (peeks_served old peeked peeks) (look_steps peeked new some looks)
-  rest_steps was_idle old new some (peeked, peeks, inr none) =
-      subst (λ some. StepsServed (round_most old.served) old.served some new.served) (sym none.3)
-      (subst (λ (served : ServedView J T). StepsServed (round_most old.served) old.served false served) (sym (ap (λ (view : RoundView J T C G). view.served) none.4 ∙ peeks_served old peeked peeks)) (steps_none (round_most old.served) old.served))
+  rest_steps was_idle old new some (peeked, peeks, inr none) = rw (none.3, none.4, peeks_served old peeked peeks) (steps_none (round_most old.served) old.served)
 
   module _ (was_idle : Bool) (old new : RoundView J T C G) (some : Bool) where
     pub round_asks : MakesRound meaning sleeps reads asked was_idle old some new → Asks old new
@@ -147,8 +141,7 @@ module _ {J T C G : Type 0} (meaning : Meaning J T) (sleeps : J → Option ℕ) 
 
     pub round_steps : MakesRound meaning sleeps reads asked was_idle old some new → StepsServed (round_most old.served) old.served some new.served
     round_steps (inl turned) =
-        subst (λ some. StepsServed (round_most old.served) old.served some new.served) (sym turned.0)
-        (steps_wider (turn_most old.served) (round_most old.served) true old.served new.served
+        rw turned.0 (steps_wider (turn_most old.served) (round_most old.served) true old.served new.served
         (turn_few old.served.linked.recorded.core.cores old.served.linked.recorded.cap old.served.linked.recorded.core.bursts.burst) (alone_steps old new true turned.1))
     round_steps (inr (middle, alone, rest)) =
         let first = alone_none old middle alone in

@@ -40,12 +40,8 @@ module _ {J S : Type 0} (takes : taking.Ghosts S) where
     hands_served ending going places served linked between = record {
       linked = linked;
       between = between;
-      provided =
-          subst (λ ending. IsProvided ending new.recorded) (sym going)
-          (hands_spare places (subst (λ ending. IsProvided ending old.recorded) going served.provided));
-      acts =
-          subst (λ ending. ActsAsItMay ending new.recorded) (sym going)
-          (subst ActsByCommand (sym hands_notes) (subst (λ ending. ActsAsItMay ending old.recorded) going served.acts));
+      provided = rw going (hands_spare places (subst (λ ending. IsProvided ending old.recorded) going served.provided));
+      acts = rw going (subst ActsByCommand (sym hands_notes) (subst (λ ending. ActsAsItMay ending old.recorded) going served.acts));
     }
 
     -- it knows of its seat what it knew

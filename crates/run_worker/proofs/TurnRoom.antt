@@ -1,6 +1,6 @@
 -- How many notes a turn takes.
-use Rattle.run_worker.proofs.Names.{ap, arith, Bool, false, GoesThrough, IsSameSeat, JobId, left_of, length, List, MakesTurn, Meaning, most_of_turn, number_if, polls_in_turn, PollsOn, RecordedView, seat_along, seat_same, subst, suc, sum_by}
-use Rattle.run_worker.proofs.Names.{sym, true, Turned, TurnView, ℕ, [], ◌*◌, ◌+◌, ◌-◌, ◌∷◌, ◌≡◌, ◌≤◌}
+use Rattle.run_worker.proofs.Names.{ap, arith, Bool, false, GoesThrough, IsSameSeat, JobId, left_of, length, List, MakesTurn, Meaning, most_of_turn, number_if, polls_in_turn, PollsOn, RecordedView, seat_along, seat_same, suc, sum_by}
+use Rattle.run_worker.proofs.Names.{true, Turned, TurnView, ℕ, [], ◌*◌, ◌+◌, ◌-◌, ◌∷◌, ◌≡◌, ◌≤◌}
 use Rattle.actor_core.specs.declared.whole.Turned.TheVariants as came
 use Rattle.run_worker.proofs.TurnNotes.{ended_notes, notes_at}
 
@@ -13,9 +13,7 @@ module _ {J T M G : Type 0} (meaning : Meaning J T) (tells : M → ℕ → M →
     spends : length new.journal.notes + sum_by left_of new.lanes ≤ length old.journal.notes + sum_by left_of old.lanes + 2 * count
 
   on_counts : (polls : List JobId) (old new : TurnView J T M G) → PollsOn meaning tells asked polls old new → Counts (length polls) old.linked.recorded new.linked.recorded
-  on_counts [] old new did =
-      subst (λ (view : TurnView J T M G). Counts 0 old.linked.recorded view.linked.recorded) (sym did)
-      (record { seat = seat_same old.linked.recorded; polls = omega arith; within = omega arith; spends = omega arith })
+  on_counts [] old new did = rw did (record { seat = seat_same old.linked.recorded; polls = omega arith; within = omega arith; spends = omega arith })
   on_counts (name ∷ before) old new did =
       let was = on_counts before old did.0 did.1 in
       let now = did.2.polls in
