@@ -32,40 +32,46 @@ module _ {A : Type 0} where
       let is : get_or (set items i a) j b ≡ b = get_or_from_slice_get (set items i a) j b b there in
       slice_get-get_or items j b within ∙ ap Some (sym (get_or-set_other items i j a b other) ∙ is)
 
-module _ {J T E : Type 0} (fits : Order J → Outcome J T → Type 0) (out : E → Outward J T) (credited : E → ℕ) where
-  -- the lane and the end of a core belong to each other
-  pub at-core : (desk : Desk J T) (ends : List E) (core : ℕ) (lane : Lane J T) (end : E) → AreEndsOf fits out credited desk ends
-      → core < length desk.lanes → lane ≡ get_or desk.lanes core lane → end ≡ get_or ends core end → IsLaneOf fits lane (out end) (credited end)
-  at-core desk ends core lane end are low lane_is end_is =
-      are.each core lane end (found desk.lanes core lane low lane_is) (found ends core end (subst (λ n. core < n) (sym are.count) low) end_is)
-
-  pub set-core : (desk : Desk J T) (ends : List E) (core : ℕ) (lane : Lane J T) (end : E) → AreEndsOf fits out credited desk ends
-      → IsLaneOf fits lane (out end) (credited end) → AreEndsOf fits out credited (record { actor = desk.actor; lanes = set desk.lanes core lane }) (set ends core end)
-  set-core desk ends core lane end are is = record {
-    count = length-set ends core end ∙ (are.count ∙ sym (length-set desk.lanes core lane));
+-- the lane and the end of a core, which were taken out of the desk and its ends
+module _ {J T E : Type 0} {fits : Order J → Outcome J T → Type 0} {out : E → Outward J T} {credited : E → ℕ} {desk told : Desk J T} (is : desk ≡ told) {ends : List E} (are : AreEndsOf fits out credited told ends) where
+  -- the later ones are put back
+  pub set-core : (core : ℕ) (later : Lane J T) (now : E) → IsLaneOf fits later (out now) (credited now) → AreEndsOf fits out credited (record { actor = desk.actor; lanes = set desk.lanes core later }) (set ends core now)
+  set-core core later now belong = record {
+    count = length-set ends core now ∙ (are.count ∙ (ap (λ (desk : Desk J T). length desk.lanes) (sym is) ∙ sym (length-set desk.lanes core later)));
     each = λ i. λ other. λ its_end. λ lane_there. λ end_there. elim (eqb_tells i core) [
       | inl same ↦
-          subst (λ l. IsLaneOf fits l (out its_end) (credited its_end)) (sym (changed desk.lanes core i lane other lane_there same.1))
-          (subst (λ e. IsLaneOf fits lane (out e) (credited e)) (sym (changed ends core i end its_end end_there same.1)) is)
-      | inr away ↦ are.each i other its_end (unchanged desk.lanes core i lane other lane_there away.1) (unchanged ends core i end its_end end_there away.1)
+          subst (λ l. IsLaneOf fits l (out its_end) (credited its_end)) (sym (changed desk.lanes core i later other lane_there same.1))
+          (subst (λ e. IsLaneOf fits later (out e) (credited e)) (sym (changed ends core i now its_end end_there same.1)) belong)
+      | inr away ↦ are.each i other its_end (ap (λ (desk : Desk J T). slice_get desk.lanes i) (sym is) ∙ unchanged desk.lanes core i later other lane_there away.1) (unchanged ends core i now its_end end_there away.1)
     ];
   }
 
-  pub AtCore-set : (desk : Desk J T) (ends : List E) (core : ℕ) (lane later : Lane J T) (end now : E) (step : Lane J T → Lane J T → E → E → Type 0)
-      → length ends ≡ length desk.lanes → core < length desk.lanes → lane ≡ get_or desk.lanes core lane → end ≡ get_or ends core end → step lane later end now
-      → AtCore desk (record { actor = desk.actor; lanes = set desk.lanes core later }) ends (set ends core now) core step
-  AtCore-set desk ends core lane later end now step count low lane_is end_is steps = record {
-    lane = lane;
-    later = later;
-    end = end;
-    now = now;
-    lane_was = found desk.lanes core lane low lane_is;
-    end_was = found ends core end (subst (λ n. core < n) (sym count) low) end_is;
-    lanes_are = refl;
-    ends_are = refl;
-    steps = steps;
-  }
+  module _ {core : ℕ} (low : core < length told.lanes) {lane : Lane J T} {end : E} (lane_is : lane ≡ get_or desk.lanes core lane) (end_is : end ≡ get_or ends core end) where
+    lane_there : slice_get told.lanes core ≡ Some lane
+    lane_there = found told.lanes core lane low (lane_is ∙ ap (λ (desk : Desk J T). get_or desk.lanes core lane) is)
 
+    end_there : slice_get ends core ≡ Some end
+    end_there = found ends core end (subst (λ n. core < n) (sym are.count) low) end_is
+
+    -- they belong to each other
+    pub at-core : IsLaneOf fits lane (out end) (credited end)
+    at-core = are.each core lane end lane_there end_there
+
+    pub AtCore-set : (later : Lane J T) (now : E) {step : Lane J T → Lane J T → E → E → Type 0} → step lane later end now
+        → AtCore told (record { actor = desk.actor; lanes = set desk.lanes core later }) ends (set ends core now) core step
+    AtCore-set later now steps = record {
+      lane = lane;
+      later = later;
+      end = end;
+      now = now;
+      lane_was = lane_there;
+      end_was = end_there;
+      lanes_are = ap (λ (desk : Desk J T). record desk { lanes = set desk.lanes core later }) is;
+      ends_are = refl;
+      steps = steps;
+    }
+
+module _ {J T E : Type 0} (fits : Order J → Outcome J T → Type 0) (out : E → Outward J T) (credited : E → ℕ) where
   -- ends on which nothing was done belong to a desk just opened
   pub AreEndsOf-fresh : (actor cores cap : ℕ) (ends : List E) → AreUnused out credited cores cap ends → AreEndsOf fits out credited (fresh_desk actor cores cap) ends
   AreEndsOf-fresh actor cores cap ends unused = record {

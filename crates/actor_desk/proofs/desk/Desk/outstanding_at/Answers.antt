@@ -1,17 +1,11 @@
 use Rattle.std.proofs.Common.{◌≡◌, ◌<◌, length, sym, ap, subst, ◌∙◌}
 use Rattle.std.specs.Prelude.{slice_get, IfSome}
-use Rattle.link_ends.specs.Fits.{Fits}
 use Rattle.actor_desk.specs.Held.{count_of}
-use Rattle.actor_desk.specs.Desks.{AreEndsOf}
 use Rattle.actor_desk.proofs.Cores.{at-core, found}
 use Rattle.actor_desk.proofs.desk.Desk.outstanding_at.Goals as goal
 
 pub outstanding-requires : goal.outstanding-requires
-outstanding-requires g c =
-    at-core (Fits g.J.Task.meaning) g.O.OutEnd.out g.O.OutEnd.credited _ c.args.ends.now c.args.core _ _
-    (subst (λ d. AreEndsOf (Fits g.J.Task.meaning) g.O.OutEnd.out g.O.OutEnd.credited d c.args.ends.now) (sym c.self.view_is) c.requires.ends)
-    (subst (λ d. c.args.core < length d.lanes) (sym c.self.view_is) c.requires.core)
-    c.index-lane.ensures c.index-ends-core.is
+outstanding-requires g c = at-core c.self.view_is c.requires.ends c.requires.core c.index-lane.ensures c.index-ends-core.is
 
 pub returns : goal.returns
 returns g c =

@@ -1,27 +1,14 @@
-use Rattle.std.proofs.Common.{◌≡◌, ◌<◌, length, get_or, sym, ap, subst}
-use Rattle.link_ends.specs.Fits.{Fits}
-use Rattle.actor_desk.specs.Desks.{AreEndsOf}
+use Rattle.std.proofs.Common.{get_or, ap}
 use Rattle.actor_desk.proofs.Cores.{at-core, set-core, AtCore-set}
 use Rattle.actor_desk.proofs.desk.Desk.redeem_at.Goals as goal
 
 pub redeem-requires : goal.redeem-requires
-redeem-requires g c =
-    at-core (Fits g.J.Task.meaning) g.O.OutEnd.out g.O.OutEnd.credited _ c.args.ends.now c.args.core _ _
-    (subst (λ d. AreEndsOf (Fits g.J.Task.meaning) g.O.OutEnd.out g.O.OutEnd.credited d c.args.ends.now) (sym c.self.view_is) c.requires.ends)
-    (subst (λ d. c.args.core < length d.lanes) (sym c.self.view_is) c.requires.core)
-    c.index_mut-lane.ensures.value (ap (get_or c.args.ends.now c.args.core) c.index-ends-core.is)
+redeem-requires g c = at-core c.self.view_is c.requires.ends c.requires.core c.index_mut-lane.ensures.value (ap (get_or c.args.ends.now c.args.core) c.index-ends-core.is)
 
 pub returns-clause-ends : goal.returns-clause-ends
-returns-clause-ends g c =
-    set-core (Fits g.J.Task.meaning) g.O.OutEnd.out g.O.OutEnd.credited _ c.args.ends.now c.args.core c.redeem.new.self c.redeem.new.end
-    (subst (λ d. AreEndsOf (Fits g.J.Task.meaning) g.O.OutEnd.out g.O.OutEnd.credited d c.args.ends.now) (sym c.self.view_is) c.requires.ends)
-    c.redeem.ensures.lane
+returns-clause-ends g c = set-core c.self.view_is c.requires.ends c.args.core c.redeem.new.self c.redeem.new.end c.redeem.ensures.lane
 
 pub returns-clause-redeems : goal.returns-clause-redeems
 returns-clause-redeems g c =
-    rw (← c.self.view_is)
-    (AtCore-set (Fits g.J.Task.meaning) g.O.OutEnd.out g.O.OutEnd.credited _ c.args.ends.now c.args.core _ c.redeem.new.self _ c.redeem.new.end _
-    (subst (λ d. length c.args.ends.now ≡ length d.lanes) (sym c.self.view_is) c.requires.ends.count)
-    (subst (λ d. c.args.core < length d.lanes) (sym c.self.view_is) c.requires.core)
-    c.index_mut-lane.ensures.value (ap (get_or c.args.ends.now c.args.core) c.index-ends-core.is)
-    (c.redeem.ensures.untouched, c.redeem.ensures.out, c.redeem.ensures.redeems, c.redeem.ensures.given, c.redeem.ensures.fits))
+    AtCore-set c.self.view_is c.requires.ends c.requires.core c.index_mut-lane.ensures.value (ap (get_or c.args.ends.now c.args.core) c.index-ends-core.is) c.redeem.new.self c.redeem.new.end
+    (c.redeem.ensures.untouched, c.redeem.ensures.out, c.redeem.ensures.redeems, c.redeem.ensures.given, c.redeem.ensures.fits)
