@@ -10,14 +10,15 @@ use Rattle.actor_desk.proofs.Names.{LendsEnd, false, None, cond, Result, Ok, Err
 use Rattle.actor_desk.proofs.Names.{JobId, TicketError, Unknown, Gone, SendError, Closed, Full, NoCore}
 use Rattle.actor_desk.proofs.Names.{first_under, IsDetachable, accepted_orders, with_last, without_job}
 use Rattle.actor_desk.proofs.Names.{outcome_note, is_gone, same_as_itself, first_under-last, Call, Makes, Submit}
-use Rattle.actor_desk.proofs.Names.{Redeem, Detach, Sends, IsGot, FitsSent, Submits, numbered, name_of}
-use Rattle.actor_desk.proofs.Names.{StaysBeside, RedeemsTicket, DetachesTicket, Knows, SubmitsOn, RedeemsOn}
-use Rattle.actor_desk.proofs.Names.{DetachesOn, Does, Doing}
+use Rattle.actor_desk.proofs.Names.{Redeem, Detach, Sends, Submits, numbered, name_of}
+use Rattle.actor_desk.proofs.Names.{StaysBeside, RedeemsTicket, DetachesTicket}
+use Rattle.actor_desk.proofs.Names.{Does, Doing}
 use Rattle.base_words.specs.declared.note.Note.TheVariants.{Detached}
 use Rattle.base_words.specs.declared.names.TicketError.TheVariants.{Pending}
 use Rattle.base_words.specs.declared.note.Note.TheVariants as writes
 use Rattle.base_words.specs.declared.order.SendError.TheVariants.{Spent}
 use Rattle.actor_desk.proofs.NumberedOrders.{numbered-missing, length-numbered}
+use Rattle.actor_desk.specs.Posts.{lends}
 pub use Rattle.actor_desk.proofs.Posts.{room_for}
 use Rattle.actor_desk.proofs.Posts.{sends_nothing, posted_nothing, posted_then, NotesOne, lent_noted, posted_noted}
 
@@ -30,15 +31,26 @@ sends_order old new credited order (Err (Full back)) sends = sends_nothing old n
 sends_order old new credited order (Err (Spent back)) sends = sends_nothing old new sends.4
 sends_order old new credited order (Err (NoCore back)) sends = absurd sends
 
-module _ {J T E : Type 0} {fits : Order J → Outcome J T → Type 0} {out : E → Outward J T} {credited : E → ℕ}
-    (desk : DeskView J T) (ends : List E) (is : IsLent fits out credited (record { desk = desk; ends = ends }))
-    (core to : ℕ) (core_is : core ≡ to) (end : E) (there : slice_get ends core ≡ Some end) where
+module _ {J T E : Type 0} {fits : Order J → Outcome J T → Type 0} {out : E → Outward J T} {credited : E → ℕ} {desk : DeskView J T} {ends : List E} {core to : ℕ} (core_is : core ≡ to)
+    {end : E} (there : slice_get ends core ≡ Some end) where
   -- the end of a core is beside the desk
-  pub end_beside : IsOutOf to desk (out end) (credited end)
-  end_beside = subst (λ core. IsOutOf core desk (out end) (credited end)) core_is (is.outs.beside core end there)
+  pub end_beside : IsLent fits out credited (lends desk ends) → IsOutOf to desk (out end) (credited end)
+  end_beside is = subst (λ core. IsOutOf core desk (out end) (credited end)) core_is (is.outs.beside core end there)
 
-  pub end_lane : HasLane fits to desk (out end) (credited end)
-  end_lane = subst (λ core. HasLane fits core desk (out end) (credited end)) core_is (is.outs.lanes core end there)
+  pub end_lane : IsLent fits out credited (lends desk ends) → HasLane fits to desk (out end) (credited end)
+  end_lane is = subst (λ core. HasLane fits core desk (out end) (credited end)) core_is (is.outs.lanes core end there)
+
+  -- a call on the end that stands at its core's place
+  abbrev pub lends_end : {untouched : E → List ℕ} {later : DeskView J T} (now : E) → StaysBeside fits to desk later (out now) (credited now) → untouched now ≡ untouched end →
+      LendsEnd fits out credited untouched to (lends desk ends) (lends later (set ends core now))
+  lends_end {untouched} {later} now stays same = record {
+    end = end;
+    later = now;
+    is = subst (λ core. slice_get ends core ≡ Some end) core_is there;
+    ends = ap (λ core. set ends core now) core_is;
+    stays = stays;
+    untouched = same;
+  }
 
 module _ {J T : Type 0} (to : ℕ) (desk later : DeskView J T) where
   submit_notes : (order : Order J) (answer : Result JobId (SendError J)) → Submits to order desk answer later → IfOk answer (λ _. Spends to 3 desk later) → NotesOne to desk later
@@ -84,35 +96,6 @@ module _ {J T E : Type 0} (fits : Order J → Outcome J T → Type 0) (out : E �
   pub posted_made : (calls : List (Call J T)) (old new : PostView J T E) → Makes (Does fits out credited untouched) calls old new → HasPosted out untouched old new
   posted_made [] old new made = subst (HasPosted out untouched old) (sym made) (posted_nothing old)
   posted_made (call ∷ calls) old new made = posted_then old made.0 new (posted_did old made.0 call made.1) (posted_made calls made.0 new made.2)
-
-  -- a call on the end that stands at its core's place
-  module _ (desk later : DeskView J T) (ends : List E) (core to : ℕ) (core_is : core ≡ to) (end now : E) (there : slice_get ends core ≡ Some end)
-      (stays : StaysBeside fits to desk later (out now) (credited now)) (same : untouched now ≡ untouched end) where
-    abbrev lends_end : LendsEnd fits out credited untouched to (record { desk = desk; ends = ends }) (record { desk = later; ends = set ends core now })
-    lends_end = record {
-      end = end;
-      later = now;
-      is = subst (λ core. slice_get ends core ≡ Some end) core_is there;
-      ends = ap (λ core. set ends core now) core_is;
-      stays = stays;
-      untouched = same;
-    }
-
-    pub submitted_on : (order : Order J) (answer : Result JobId (SendError J)) → Submits to order desk answer later → Sends (out end) (credited end) order (out now) (numbered answer) → credited now ≡ credited end → IfOk answer (λ _. Spends to 3 desk later) →
-        SubmitsOn fits out credited untouched to order answer (record { desk = desk; ends = ends }) (record { desk = later; ends = set ends core now })
-    submitted_on order answer submits sends credit spends = record { lent = lends_end; submits = submits; sends = sends; credited = credit; spends = spends }
-
-  module _ (desk later : DeskView J T) (ends : List E) (core : ℕ) (name : JobId) (core_is : core ≡ name.to) (end now : E) (there : slice_get ends core ≡ Some end)
-      (stays : StaysBeside fits name.to desk later (out now) (credited now)) (same : untouched now ≡ untouched end) (out_is : out now ≡ out end) (knows : Knows desk name) where
-    pub redeemed_on : (answer : Result (Outcome J T) TicketError) → RedeemsTicket name desk answer later → IfOk answer (IsGot (out end) name.number) → IfOk answer (FitsSent fits (out end) name.number) → IfOk answer (λ _. Spends name.to 0 desk later) →
-        RedeemsOn fits out credited untouched name answer (record { desk = desk; ends = ends }) (record { desk = later; ends = set ends core now })
-    redeemed_on answer redeems given fit spends =
-        record { knows = knows; lent = lends_end desk later ends core name.to core_is end now there stays same; redeems = redeems; given = given; fits = fit; out = out_is; spends = spends }
-
-    pub detached_on : (answer : Result (Unit {0}) TicketError) → DetachesTicket name desk answer later → IfOk answer (λ _. Spends name.to 0 desk later) →
-        DetachesOn fits out credited untouched name answer (record { desk = desk; ends = ends }) (record { desk = later; ends = set ends core now })
-    detached_on answer detaches spends =
-        record { knows = knows; lent = lends_end desk later ends core name.to core_is end now there stays same; detaches = detaches; out = out_is; spends = spends }
 
 -- a submission that was accepted waits for its outcome
 pub waits_sent : {J T : Type 0} (desk later : DeskView J T) (known : KnowsLanes desk) (to : ℕ) {fits : Order J → Outcome J T → Type 0} (out : Outward J T) (credited : ℕ) → IsOutOf to desk out credited → HasLane fits to desk out credited →

@@ -1,43 +1,33 @@
-use Rattle.actor_desk.proofs.Names.{inr, refl, ap, subst, set, ◌∙◌, arith, Redeem, found, Fits, Does}
-use Rattle.actor_desk.specs.Lent.{LentView}
-use Rattle.actor_desk.proofs.Posting.{end_beside, end_lane, lent_did, redeemed_on}
+use Rattle.actor_desk.proofs.Names.{inr, refl, ap, set, ◌∙◌, ◌≡◌, arith, Redeem, found, Fits, RedeemsOn, slice_get, Some}
+use Rattle.actor_desk.specs.Posts.{lends}
+use Rattle.actor_desk.proofs.Posting.{end_beside, end_lane, lends_end, lent_did}
+use Rattle.actor_desk.proofs.post.RecordedPostPostU64.redeem.Given.{Over}
 use Rattle.actor_desk.proofs.post.RecordedPostPostU64.redeem.Goals as goal
+use Rattle.actor_desk.proofs.post.RecordedPostPostU64.redeem.Goals.{After-index_mut-end, After-redeem}
+
+-- the end of the ticket's core stands at its place
+its_end : (g : Over) (c : After-index_mut-end g) → (c.index_mut.inside.0.1.0.0 ≡ c.args.ticket.to) × (slice_get c.self.inside.ends.now.items c.index_mut.inside.0.1.0.0 ≡ Some c.index_mut-end.result.now)
+its_end g c =
+    let to_is = ap (λ id. id.to) (c.index_mut.view_is ∙ c.name.ensures) in
+    (to_is, found c.self.inside.ends.now.items _ c.index_mut-end.result.now (omega (arith, (c.if-not-knows.ensures.knows.0 refl).1, c.self.invariant.outs.count, to_is)) c.index_mut-end.ensures.value)
+
+-- what the call does
+does : (g : Over) (c : After-redeem g) → RedeemsOn (Fits g.J.Task.meaning) g.O.OutEnd.out g.O.OutEnd.credited g.O.OutEnd.untouched c.args.ticket c.redeem.result
+    (lends c.self.inside.said.now c.self.inside.ends.now.items) (lends c.redeem.new.self (set c.self.inside.ends.now.items c.index_mut.inside.0.1.0.0 c.redeem.new.end))
+does g c =
+    let end = its_end g c.before.before in
+    let lent = lends_end end.0 end.1 c.redeem.new.end c.redeem.ensures.stays c.redeem.ensures.untouched in
+    record { knows = c.if-not-knows.ensures.knows.0 refl; lent = lent; redeems = c.redeem.ensures.redeems; given = c.redeem.ensures.given; fits = c.redeem.ensures.fits; out = c.redeem.ensures.out; spends = c.redeem.ensures.spends }
 
 pub redeem-requires : goal.redeem-requires
 redeem-requires g c =
-    let to_is = ap (λ id. id.to) (c.index_mut.view_is ∙ c.name.ensures) in
-    let known = c.if-not-knows.ensures.knows.0 refl in
-    let there = found c.self.inside.ends.now.items c.index_mut.inside.0.1.0.0 c.index_mut-end.result.now (omega (arith, known.1, c.self.invariant.outs.count, to_is)) c.index_mut-end.ensures.value in
-    record {
-      beside = end_beside c.self.inside.said.now c.self.inside.ends.now.items c.self.invariant c.index_mut.inside.0.1.0.0 c.args.ticket.to to_is c.index_mut-end.result.now there;
-      lane = end_lane c.self.inside.said.now c.self.inside.ends.now.items c.self.invariant c.index_mut.inside.0.1.0.0 c.args.ticket.to to_is c.index_mut-end.result.now there;
-      room = λ held. omega (arith, c.self.invariant.spare);
-    }
+    let end = its_end g (goal.at.redeem-requires g c).After-index_mut-end in
+    record { beside = end_beside end.0 end.1 c.self.invariant; lane = end_lane end.0 end.1 c.self.invariant; room = λ held. omega (arith, c.self.invariant.spare) }
 
 pub invariant_of-self : goal.invariant_of-self
 invariant_of-self g c =
-    let to_is = ap (λ id. id.to) (c.index_mut.view_is ∙ c.name.ensures) in
-    let known = c.if-not-knows.ensures.knows.0 refl in
-    let there = found c.self.inside.ends.now.items c.index_mut.inside.0.1.0.0 c.index_mut-end.result.now (omega (arith, known.1, c.self.invariant.outs.count, to_is)) c.index_mut-end.ensures.value in
-    lent_did (Fits g.J.Task.meaning) g.O.OutEnd.out g.O.OutEnd.credited g.O.OutEnd.untouched
-    (record { desk = c.self.inside.said.now; ends = c.self.inside.ends.now.items })
-    (record { desk = c.redeem.new.self; ends = set c.self.inside.ends.now.items c.index_mut.inside.0.1.0.0 c.redeem.new.end }) (Redeem c.args.ticket c.redeem.result)
-    (inr (redeemed_on (Fits g.J.Task.meaning) g.O.OutEnd.out g.O.OutEnd.credited g.O.OutEnd.untouched c.self.inside.said.now c.redeem.new.self c.self.inside.ends.now.items
-    c.index_mut.inside.0.1.0.0 c.args.ticket to_is c.index_mut-end.result.now c.redeem.new.end there c.redeem.ensures.stays c.redeem.ensures.untouched c.redeem.ensures.out known
-    c.redeem.result c.redeem.ensures.redeems c.redeem.ensures.given c.redeem.ensures.fits c.redeem.ensures.spends)) c.self.invariant
+    lent_did (Fits g.J.Task.meaning) g.O.OutEnd.out g.O.OutEnd.credited g.O.OutEnd.untouched (lends c.self.inside.said.now c.self.inside.ends.now.items) _ (Redeem c.args.ticket c.redeem.result)
+    (inr (does g (goal.at.invariant_of-self g c).After-redeem)) c.self.invariant
 
 pub returns-clause-does : goal.returns-clause-does
-returns-clause-does g c =
-    let to_is = ap (λ id. id.to) (c.index_mut.view_is ∙ c.name.ensures) in
-    let known = c.if-not-knows.ensures.knows.0 refl in
-    let there = found c.self.inside.ends.now.items c.index_mut.inside.0.1.0.0 c.index_mut-end.result.now (omega (arith, known.1, c.self.invariant.outs.count, to_is)) c.index_mut-end.ensures.value in
-    record {
-      does =
-          subst (λ (post : LentView _ _ _). Does (Fits g.J.Task.meaning) g.O.OutEnd.out g.O.OutEnd.credited g.O.OutEnd.untouched post.lent (Redeem c.args.ticket c.redeem.result)
-          (record { desk = c.redeem.new.self; ends = set c.self.inside.ends.now.items c.index_mut.inside.0.1.0.0 c.redeem.new.end })) c.self.view_is
-          (inr (redeemed_on (Fits g.J.Task.meaning) g.O.OutEnd.out g.O.OutEnd.credited g.O.OutEnd.untouched c.self.inside.said.now c.redeem.new.self c.self.inside.ends.now.items
-          c.index_mut.inside.0.1.0.0 c.args.ticket to_is c.index_mut-end.result.now c.redeem.new.end there c.redeem.ensures.stays c.redeem.ensures.untouched c.redeem.ensures.out known
-          c.redeem.result c.redeem.ensures.redeems c.redeem.ensures.given c.redeem.ensures.fits c.redeem.ensures.spends));
-      desk_at = ap (λ (post : LentView _ _ _). post.desk_at) c.self.view_is;
-      ends_at = ap (λ (post : LentView _ _ _). post.ends_at) c.self.view_is;
-    }
+returns-clause-does g c = rw (← c.self.view_is) (record { does = inr (does g (goal.at.returns-clause-does g c).After-redeem); desk_at = refl; ends_at = refl })

@@ -1,46 +1,37 @@
-use Rattle.actor_desk.proofs.Names.{inr, ap, subst, set, arith, Submit, found, Fits, Does}
-use Rattle.actor_desk.specs.Lent.{LentView}
-use Rattle.actor_desk.proofs.Posting.{end_beside, end_lane, lent_did, submitted_on, waits_sent}
+use Rattle.actor_desk.proofs.Names.{inr, refl, set, ◌≡◌, arith, Submit, found, Fits, SubmitsOn, slice_get, Some}
+use Rattle.actor_desk.specs.Posts.{lends}
+use Rattle.actor_desk.proofs.Posting.{end_beside, end_lane, lends_end, lent_did, waits_sent}
+use Rattle.actor_desk.proofs.post.RecordedPostPostU64.submit.Given.{Over}
 use Rattle.actor_desk.proofs.post.RecordedPostPostU64.submit.Goals as goal
+use Rattle.actor_desk.proofs.post.RecordedPostPostU64.submit.Goals.{After-index_mut-end, After-submit}
+
+-- the end of the core stands at its place
+there : (g : Over) (c : After-index_mut-end g) → slice_get c.self.inside.ends.now.items c.to.inside.0 ≡ Some c.index_mut-end.result.now
+there g c = found c.self.inside.ends.now.items _ c.index_mut-end.result.now (omega (arith, c.if-to-len.false, c.len.ensures)) c.index_mut-end.ensures.value
+
+-- what the call does
+does : (g : Over) (c : After-submit g) → SubmitsOn (Fits g.J.Task.meaning) g.O.OutEnd.out g.O.OutEnd.credited g.O.OutEnd.untouched c.args.to c.args.order c.submit.result
+    (lends c.self.inside.said.now c.self.inside.ends.now.items) (lends c.submit.new.self (set c.self.inside.ends.now.items c.to.inside.0 c.submit.new.end))
+does g c =
+    let lent = lends_end c.to.view_is (there g c.before.before) c.submit.new.end c.submit.ensures.stays c.submit.ensures.untouched in
+    record { lent = lent; submits = c.submit.ensures.submits; sends = c.submit.ensures.sends; credited = c.submit.ensures.credited; spends = c.submit.ensures.spends }
 
 pub submit-requires-clause-beside : goal.submit-requires-clause-beside
-submit-requires-clause-beside g c =
-    let there = found c.self.inside.ends.now.items c.to.inside.0 c.index_mut-end.result.now (omega (arith, c.if-to-len.false, c.len.ensures)) c.index_mut-end.ensures.value in
-    end_beside c.self.inside.said.now c.self.inside.ends.now.items c.self.invariant c.to.inside.0 c.args.to c.to.view_is c.index_mut-end.result.now there
+submit-requires-clause-beside g c = end_beside c.to.view_is (there g (goal.at.submit-requires-clause-beside g c).After-index_mut-end) c.self.invariant
 
 pub submit-requires-clause-lane : goal.submit-requires-clause-lane
-submit-requires-clause-lane g c =
-    let there = found c.self.inside.ends.now.items c.to.inside.0 c.index_mut-end.result.now (omega (arith, c.if-to-len.false, c.len.ensures)) c.index_mut-end.ensures.value in
-    end_lane c.self.inside.said.now c.self.inside.ends.now.items c.self.invariant c.to.inside.0 c.args.to c.to.view_is c.index_mut-end.result.now there
+submit-requires-clause-lane g c = end_lane c.to.view_is (there g (goal.at.submit-requires-clause-lane g c).After-index_mut-end) c.self.invariant
 
 pub invariant_of-self : goal.invariant_of-self
 invariant_of-self g c =
-    let there = found c.self.inside.ends.now.items c.to.inside.0 c.index_mut-end.result.now (omega (arith, c.if-to-len.false, c.len.ensures)) c.index_mut-end.ensures.value in
-    lent_did (Fits g.J.Task.meaning) g.O.OutEnd.out g.O.OutEnd.credited g.O.OutEnd.untouched
-    (record { desk = c.self.inside.said.now; ends = c.self.inside.ends.now.items })
-    (record { desk = c.submit.new.self; ends = set c.self.inside.ends.now.items c.to.inside.0 c.submit.new.end }) (Submit c.args.to c.args.order c.submit.result)
-    (inr (submitted_on (Fits g.J.Task.meaning) g.O.OutEnd.out g.O.OutEnd.credited g.O.OutEnd.untouched c.self.inside.said.now c.submit.new.self c.self.inside.ends.now.items
-    c.to.inside.0 c.args.to c.to.view_is c.index_mut-end.result.now c.submit.new.end there c.submit.ensures.stays c.submit.ensures.untouched c.args.order
-    c.submit.result c.submit.ensures.submits c.submit.ensures.sends c.submit.ensures.credited c.submit.ensures.spends)) c.self.invariant
+    lent_did (Fits g.J.Task.meaning) g.O.OutEnd.out g.O.OutEnd.credited g.O.OutEnd.untouched (lends c.self.inside.said.now c.self.inside.ends.now.items) _ (Submit c.args.to c.args.order c.submit.result)
+    (inr (does g (goal.at.invariant_of-self g c).After-submit)) c.self.invariant
 
 pub returns-clause-waits : goal.returns-clause-waits
 returns-clause-waits g c =
-    let there = found c.self.inside.ends.now.items c.to.inside.0 c.index_mut-end.result.now (omega (arith, c.if-to-len.false, c.len.ensures)) c.index_mut-end.ensures.value in
-    waits_sent c.self.inside.said.now c.submit.new.self c.see_lanes.ensures.known c.args.to _ _
-    (end_beside c.self.inside.said.now c.self.inside.ends.now.items c.self.invariant c.to.inside.0 c.args.to c.to.view_is c.index_mut-end.result.now there)
-    (end_lane c.self.inside.said.now c.self.inside.ends.now.items c.self.invariant c.to.inside.0 c.args.to c.to.view_is c.index_mut-end.result.now there)
+    let its = there g (goal.at.returns-clause-waits g c).After-index_mut-end in
+    waits_sent c.self.inside.said.now c.submit.new.self c.see_lanes.ensures.known c.args.to _ _ (end_beside c.to.view_is its c.self.invariant) (end_lane c.to.view_is its c.self.invariant)
     c.args.order c.submit.result c.submit.ensures.submits
 
 pub returns-clause-does : goal.returns-clause-does
-returns-clause-does g c =
-    let there = found c.self.inside.ends.now.items c.to.inside.0 c.index_mut-end.result.now (omega (arith, c.if-to-len.false, c.len.ensures)) c.index_mut-end.ensures.value in
-    record {
-      does =
-          subst (λ (post : LentView _ _ _). Does (Fits g.J.Task.meaning) g.O.OutEnd.out g.O.OutEnd.credited g.O.OutEnd.untouched post.lent (Submit c.args.to c.args.order c.submit.result)
-          (record { desk = c.submit.new.self; ends = set c.self.inside.ends.now.items c.to.inside.0 c.submit.new.end })) c.self.view_is
-          (inr (submitted_on (Fits g.J.Task.meaning) g.O.OutEnd.out g.O.OutEnd.credited g.O.OutEnd.untouched c.self.inside.said.now c.submit.new.self c.self.inside.ends.now.items
-          c.to.inside.0 c.args.to c.to.view_is c.index_mut-end.result.now c.submit.new.end there c.submit.ensures.stays c.submit.ensures.untouched c.args.order
-          c.submit.result c.submit.ensures.submits c.submit.ensures.sends c.submit.ensures.credited c.submit.ensures.spends));
-      desk_at = ap (λ (post : LentView _ _ _). post.desk_at) c.self.view_is;
-      ends_at = ap (λ (post : LentView _ _ _). post.ends_at) c.self.view_is;
-    }
+returns-clause-does g c = rw (← c.self.view_is) (record { does = inr (does g (goal.at.returns-clause-does g c).After-submit); desk_at = refl; ends_at = refl })
