@@ -65,8 +65,10 @@ or-true : (test : Bool) → (test || true) ≡ true
 or-true test = grind arith
 
 -- nothing was accepted under another's name
-pub foreign : {J T : Type 0} (desk : DeskView J T) → IsWritten (terms_of_desk desk) desk.journal.notes → (id ticket : JobId) → id ≡ ticket → (id.from ≡ desk.actor → id.to < desk.cores → ⊥) → RefusesTicket ticket Unknown desk.journal.notes
-foreign desk written id ticket is out = subst (λ name. RefusesTicket name Unknown desk.journal.notes) is (unknown_name (terms_of_desk desk) id desk.journal.notes written.notes out)
+pub foreign : {J T : Type 0} {desk told : DeskView J T} → desk ≡ told → IsWritten (terms_of_desk desk) desk.journal.notes → {id name : JobId} → id ≡ name → (id.from ≡ desk.actor → id.to < desk.cores → ⊥) → RefusesTicket name Unknown told.journal.notes
+foreign {desk} {told} same written {id} {name} is out =
+    subst (λ (desk : DeskView _ _). RefusesTicket name Unknown desk.journal.notes) same
+    (subst (λ name. RefusesTicket name Unknown desk.journal.notes) is (unknown_name (terms_of_desk desk) id desk.journal.notes written.notes out))
 
 -- the calls at the lane of one core
 module _ {J T : Type 0} {fits : Order J → Outcome J T → Type 0} (desk : DeskView J T) (written : IsWritten (terms_of_desk desk) desk.journal.notes) (known : KnowsLanes desk) (core number : ℕ)

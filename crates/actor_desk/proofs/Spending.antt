@@ -52,11 +52,10 @@ module _ {J T : Type 0} where
     held_detached = grind arith
 
   -- there is room to note what becomes of a submission that is outstanding
-  pub may_note : (desk now : DeskView J T) → desk ≡ now → (name : JobId) → (HoldsSome name now → length now.journal.notes < now.journal.room) → (core number : ℕ) → core ≡ name.to → number ≡ name.number →
-      (lane : Lane J T) → slice_get desk.lanes core ≡ Some lane → IsSome (at lane.entries number) → length desk.journal.notes < desk.journal.room
-  may_note desk now desk_is name room core number core_is number_is lane there held =
-      subst (λ desk. HoldsSome name desk → length desk.journal.notes < desk.journal.room) (sym desk_is) room
-      (lane, subst (λ core. slice_get desk.lanes core ≡ Some lane) core_is there, subst (λ number. IsSome (at lane.entries number)) number_is held)
+  pub may_note : {desk now : DeskView J T} → desk ≡ now → {id name : JobId} → id ≡ name → (HoldsSome name now → length now.journal.notes < now.journal.room) → {lane : Lane J T} → slice_get desk.lanes id.to ≡ Some lane →
+      IsSome (at lane.entries id.number) → length desk.journal.notes < desk.journal.room
+  may_note {desk} {now} desk_is {id} {name} is room {lane} there held =
+      subst (λ (desk : DeskView J T). HoldsSome name desk → length desk.journal.notes < desk.journal.room) (sym desk_is) room (subst (λ name. HoldsSome name desk) is (lane, there, held))
 
   -- what was noted of a submission that is outstanding was due
   pub booked_noted : (desk : DeskView J T) (core : ℕ) (lane later : Lane J T) → slice_get desk.lanes core ≡ Some lane → due_of later + 1 ≡ due_of lane →

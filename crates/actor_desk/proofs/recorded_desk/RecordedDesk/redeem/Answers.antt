@@ -1,4 +1,4 @@
-use Rattle.actor_desk.proofs.Names.{ap, refl, subst, ◌∙◌, Unknown, Fits, IsGot, FitsSent, RefusesTicket}
+use Rattle.actor_desk.proofs.Names.{ap, refl, subst, ◌∙◌, Fits, IsGot, FitsSent}
 use Rattle.actor_desk.proofs.Desked.{are_same, are_apart, lane_taken, its_name}
 use Rattle.actor_desk.proofs.Redeemed.{foreign}
 use Rattle.actor_desk.proofs.Spending.{held_gone, may_note}
@@ -6,12 +6,7 @@ use Rattle.actor_desk.proofs.TicketCalls.{redeemed_call, redeem_refused}
 use Rattle.actor_desk.proofs.recorded_desk.RecordedDesk.redeem.Goals as goal
 
 pub returns-then-ne-clause-redeems : goal.returns-then-ne-clause-redeems
-returns-then-ne-clause-redeems g c = (
-  subst (λ desk. RefusesTicket c.args.ticket Unknown desk.journal.notes) c.self.view_is
-      (foreign (record { actor = c.self.inside.actor; cores = c.self.inside.cores; cap = c.self.inside.cap; burst = c.self.inside.burst; journal = c.self.inside.journal; lanes = c.self.inside.lanes.items })
-      c.self.invariant.0 _ c.args.ticket (c.name.view_is ∙ c.name-name.ensures) (λ own there. are_apart _ _ c.ne.result c.ne.ensures c.if-ne.true own)),
-  refl,
-)
+returns-then-ne-clause-redeems g c = (foreign c.self.view_is c.self.invariant.0 (c.name.view_is ∙ c.name-name.ensures) (λ own there. are_apart _ _ c.ne.result c.ne.ensures c.if-ne.true own), refl)
 
 pub redeem-requires : goal.redeem-requires
 redeem-requires g c = (lane_taken c.self.view_is c.self.invariant (ap (λ id. id.to) (c.name.view_is ∙ c.name-name.ensures)) c.requires.beside c.requires.lane c.index_mut-lane.ensures.value).lane_of
@@ -42,9 +37,5 @@ returns-in-Err g c =
 pub push-requires : goal.push-requires
 push-requires g c =
     let named = c.name.view_is ∙ c.name-name.ensures in
-    let taken = lane_taken c.self.view_is c.self.invariant (ap (λ id. id.to) (c.name.view_is ∙ c.name-name.ensures)) c.requires.beside c.requires.lane c.index_mut-lane.ensures.value in
-    let held = held_gone c.index_mut-lane.result.now c.redeem.new.self _ c.in-Ok.outcome c.in-Ok.ensures.redeems.0 in
-    record {
-      free = may_note (record { actor = c.self.inside.actor; cores = c.self.inside.cores; cap = c.self.inside.cap; burst = c.self.inside.burst; journal = c.self.inside.journal; lanes = c.self.inside.lanes.items })
-          c.args.self.now c.self.view_is c.args.ticket c.requires.room c.name.inside.0.1.0.0 _ (ap (λ id. id.to) named) (ap (λ id. id.number) named) _ taken.there held;
-    }
+    let taken = lane_taken c.self.view_is c.self.invariant (ap (λ id. id.to) named) c.requires.beside c.requires.lane c.index_mut-lane.ensures.value in
+    record { free = may_note c.self.view_is named c.requires.room taken.there (held_gone c.index_mut-lane.result.now c.redeem.new.self _ c.in-Ok.outcome c.in-Ok.ensures.redeems.0) }

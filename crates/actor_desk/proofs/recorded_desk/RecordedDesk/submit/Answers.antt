@@ -18,21 +18,10 @@ returns-in-Ok g c =
     let taken = lane_taken c.self.view_is c.self.invariant c.to.view_is c.requires.beside c.requires.lane c.index_mut-lane.ensures.value in
     let order = c.without_job-what.ensures in
     let called = submitted_call taken c.in-Ok.ensures.lane c.in-Ok.ensures.credited c.args.order c.in-Ok.ensures.sends c.in-Ok.ensures.accepted order.same order.spelled c.named-ticket.ensures c.name.ensures c.push.ensures.notes in
-    record {
-      submits = called.does_so;
-      sends = search rules;
-      credited = search rules;
-      stays = called.stays;
-      spends = called.spends;
-      untouched = search rules;
-    }
+    record { submits = called.does_so; sends = search rules; credited = search rules; stays = called.stays; spends = called.spends; untouched = search rules }
 
-pub returns-in-Err-clause-submits : goal.returns-in-Err-clause-submits
-returns-in-Err-clause-submits g c =
+pub returns-in-Err : goal.returns-in-Err
+returns-in-Err g c =
     let taken = lane_taken c.self.view_is c.self.invariant c.to.view_is c.requires.beside c.requires.lane c.index_mut-lane.ensures.value in
-    (submit_refused taken c.in-Err.ensures.lane c.in-Err.ensures.credited c.args.order c.in-Err.error c.in-Err.ensures.sends c.in-Err.ensures.refused).0
-
-pub returns-in-Err-clause-stays : goal.returns-in-Err-clause-stays
-returns-in-Err-clause-stays g c =
-    let taken = lane_taken c.self.view_is c.self.invariant c.to.view_is c.requires.beside c.requires.lane c.index_mut-lane.ensures.value in
-    (submit_refused taken c.in-Err.ensures.lane c.in-Err.ensures.credited c.args.order c.in-Err.error c.in-Err.ensures.sends c.in-Err.ensures.refused).1
+    let refused = submit_refused taken c.in-Err.ensures.lane c.in-Err.ensures.credited c.args.order c.in-Err.error c.in-Err.ensures.sends c.in-Err.ensures.refused in
+    record { submits = refused.0; sends = search rules; credited = search rules; stays = refused.1; spends = tt; untouched = search rules }
