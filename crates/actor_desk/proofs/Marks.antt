@@ -1,5 +1,5 @@
 -- What marks stand for is found, counted and changed as the marks are.
-use Rattle.std.proofs.Common.{◌≡◌, ◌⊎◌, inl, inr, ℕ, ◌+◌, ◌≤◌, Bool, true, false, List, [], ◌∷◌, Option, None, Some, refl, ap, ◌∙◌, arith}
+use Rattle.std.proofs.Common.{◌≡◌, ◌⊎◌, inl, inr, ℕ, ◌+◌, ◌≤◌, Bool, true, false, List, [], ◌∷◌, Option, None, Some, refl, sym, ap, ◌∙◌, arith}
 use Rattle.std.specs.Prelude.{eqb}
 use Rattle.slab.specs.Slab.{Slab}
 use Rattle.base_words.specs.declared.order.Outcome.{Outcome}
@@ -67,6 +67,10 @@ module _ {J T : Type 0} (kept : Slab (Outcome J T)) where
   pub at-shown : (marks : List (ℕ × Mark)) (n : ℕ) → at (shown kept marks) n ≡ mapped (at marks n)
   at-shown [] n = refl
   at-shown (held ∷ rest) n = ap (pick (eqb n held.0) (Some (entry_of kept held.1))) (at-shown rest n) ∙ pick-mapped (eqb n held.0) held.1 (at rest n)
+
+  -- what is found among the marks is shown
+  pub shows : (marks : List (ℕ × Mark)) (n : ℕ) {found : Option Mark} → found ≡ at marks n → at (shown kept marks) n ≡ mapped found
+  shows marks n is = at-shown marks n ∙ ap mapped (sym is)
 
   pub tally-shown : (marks : List (ℕ × Mark)) (test : Entry J T → Bool) → tally (shown kept marks) test ≡ tally marks (λ mark. test (entry_of kept mark))
   tally-shown [] test = refl

@@ -9,12 +9,7 @@ use Rattle.actor_desk.proofs.lane.Lane.keep.Goals as goal
 pub returns-in-Pending-clause-lane : goal.returns-in-Pending-clause-lane
 returns-in-Pending-clause-lane g c =
     IsLaneOf-collected (Fits g.J.Task.meaning) c.args.self.now (g.O.OutEnd.out c.args.end.now) (g.O.OutEnd.credited c.args.end.now) c.args.number c.args.outcome c.requires
-    (record {
-      entries = c.keep.new.self.entries;
-      room = c.keep.new.self.room;
-      count = c.self.inside.count;
-      last = c.self.inside.last;
-    })
+    (record { entries = c.keep.new.self.entries; room = c.keep.new.self.room; count = c.self.inside.count; last = c.self.inside.last })
     (subst (λ l. Becomes l.entries c.keep.new.self.entries c.args.number Pending (Collected c.args.outcome)) c.self.view_is c.keep.ensures.becomes)
     (c.keep.ensures.room ∙ ap (λ l. l.room) c.self.view_is) (ap (λ l. l.count) c.self.view_is) (ap (λ l. l.last) c.self.view_is)
 

@@ -1,23 +1,14 @@
-use Rattle.std.proofs.Common.{◌≡◌, ◌+◌, true, ap, subst, ◌∙◌, arith}
-use Rattle.actor_desk.specs.Held.{at, count_of, Removes}
-use Rattle.actor_desk.specs.Kept.{shown}
-use Rattle.actor_desk.specs.declared.entry.Entry.TheVariants.{Detached}
+use Rattle.std.proofs.Common.{◌≡◌, ◌+◌, true, ap, ◌∙◌, arith}
+use Rattle.actor_desk.specs.Held.{at, count_of}
 use Rattle.actor_desk.specs.declared.entry.Mark.TheVariants.{LetGo}
 use Rattle.actor_desk.proofs.Kept.{not_both, let_go-there, taken_out, Removes-shown, AreKept-forgotten}
 use Rattle.actor_desk.proofs.shelf.Shelf.forget.Goals as goal
 
 pub returns-clause-removes : goal.returns-clause-removes
-returns-clause-removes g c =
-    let i = c.self.inside in
-    let there = let_go-there i.kept i.held.entries c.self.invariant.0 c.args.number (ap (λ s. at s.entries c.args.number) c.self.view_is ∙ c.requires.detached) in
-    subst (λ s. Removes s.entries (shown i.kept c.remove.new.self.entries) c.args.number Detached) c.self.view_is
-    (Removes-shown i.kept i.held.entries c.remove.new.self.entries c.args.number (taken_out i.held.entries c.remove.new.self.entries c.args.number _ LetGo there c.in-Some.ensures.removes))
+returns-clause-removes g c = rw (← c.self.view_is) (Removes-shown c.self.inside.kept _ _ c.args.number (taken_out _ _ c.args.number _ LetGo (let_go-there _ _ c.self.invariant.0 c.args.number (ap (λ s. at s.entries c.args.number) c.self.view_is ∙ c.requires.detached)) c.in-Some.ensures.removes))
 
 pub unreachable-requires : goal.unreachable-requires
-unreachable-requires g c =
-    let i = c.self.inside in
-    let there = let_go-there i.kept i.held.entries c.self.invariant.0 c.args.number (ap (λ s. at s.entries c.args.number) c.self.view_is ∙ c.requires.detached) in
-    not_both _ _ there c.in_default.ensures.none
+unreachable-requires g c = not_both _ _ (let_go-there _ _ c.self.invariant.0 c.args.number (ap (λ s. at s.entries c.args.number) c.self.view_is ∙ c.requires.detached)) c.in_default.ensures.none
 
 pub invariant_of-self : goal.invariant_of-self
 invariant_of-self g c =

@@ -8,10 +8,7 @@ use Rattle.actor_desk.proofs.KeptOutcomes.{Becomes-kept, AreKept-kept}
 use Rattle.actor_desk.proofs.shelf.Shelf.keep.Goals as goal
 
 pub insert_reserved-key-requires : goal.insert_reserved-key-requires
-insert_reserved-key-requires g c =
-    let i = c.self.inside in
-    let there = waits-there i.kept i.held.entries c.self.invariant.0 c.args.number (ap (λ s. at s.entries c.args.number) c.self.view_is ∙ c.requires.waits) in
-    room-kept i.kept i.held.entries c.self.invariant.0 c.args.number there c.self.invariant.1
+insert_reserved-key-requires g c = room-kept _ _ c.self.invariant.0 c.args.number (waits-there _ _ c.self.invariant.0 c.args.number (ap (λ s. at s.entries c.args.number) c.self.view_is ∙ c.requires.waits)) c.self.invariant.1
 
 pub returns-clause-becomes : goal.returns-clause-becomes
 returns-clause-becomes g c =
@@ -35,7 +32,4 @@ invariant_of-self g c =
     )
 
 pub unreachable-requires : goal.unreachable-requires
-unreachable-requires g c =
-    let i = c.self.inside in
-    let there = waits-there i.kept i.held.entries c.self.invariant.0 c.args.number (ap (λ s. at s.entries c.args.number) c.self.view_is ∙ c.requires.waits) in
-    not_both _ _ there c.in_default.ensures.none
+unreachable-requires g c = not_both _ _ (waits-there _ _ c.self.invariant.0 c.args.number (ap (λ s. at s.entries c.args.number) c.self.view_is ∙ c.requires.waits)) c.in_default.ensures.none

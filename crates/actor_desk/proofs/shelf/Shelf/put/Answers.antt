@@ -1,15 +1,12 @@
 use Rattle.std.proofs.Common.{◌+◌, ◌≡◌, ◌<◌, true, sym, subst, arith}
-use Rattle.actor_desk.specs.Held.{count_of, Adds}
+use Rattle.actor_desk.specs.Held.{count_of}
 use Rattle.actor_desk.specs.Kept.{shown}
 use Rattle.actor_desk.specs.Rolls.{IsAbove}
-use Rattle.actor_desk.specs.declared.entry.Entry.TheVariants.{Pending}
 use Rattle.actor_desk.proofs.Kept.{above-there, count-shown, Adds-shown, AreKept-added}
 use Rattle.actor_desk.proofs.shelf.Shelf.put.Goals as goal
 
 pub add-requires-clause-above : goal.add-requires-clause-above
-add-requires-clause-above g c =
-    let i = c.self.inside in
-    above-there i.kept i.held.entries c.self.invariant.0 c.args.number (subst (λ s. IsAbove s.entries c.args.number) (sym c.self.view_is) c.requires.above)
+add-requires-clause-above g c = above-there _ _ c.self.invariant.0 c.args.number (subst (λ s. IsAbove s.entries c.args.number) (sym c.self.view_is) c.requires.above)
 
 pub add-requires-clause-room : goal.add-requires-clause-room
 add-requires-clause-room g c =
@@ -18,10 +15,7 @@ add-requires-clause-room g c =
     omega (arith, count-shown i.kept i.held.entries c.self.invariant.0)
 
 pub returns-clause-adds : goal.returns-clause-adds
-returns-clause-adds g c =
-    let i = c.self.inside in
-    subst (λ s. Adds s.entries (shown i.kept c.add.new.self.entries) c.args.number Pending) c.self.view_is
-    (Adds-shown i.kept i.held.entries c.add.new.self.entries c.args.number c.add.ensures.adds)
+returns-clause-adds g c = rw (← c.self.view_is) (Adds-shown c.self.inside.kept _ _ c.args.number c.add.ensures.adds)
 
 pub invariant_of-self : goal.invariant_of-self
 invariant_of-self g c =

@@ -8,10 +8,7 @@ use Rattle.actor_desk.proofs.KeptOutcomes.{Removes-taken}
 use Rattle.actor_desk.proofs.shelf.Shelf.take.Goals as goal
 
 pub unreachable-requires : goal.unreachable-requires
-unreachable-requires g c =
-    let i = c.self.inside in
-    let there = holds-there i.kept i.held.entries c.self.invariant.0 c.args.number (subst (λ s. IsCollectedAt s.entries c.args.number) (sym c.self.view_is) c.requires) in
-    not_both _ _ there.1 c.in_default.ensures.none
+unreachable-requires g c = not_both _ _ (holds-there _ _ c.self.invariant.0 c.args.number (subst (λ s. IsCollectedAt s.entries c.args.number) (sym c.self.view_is) c.requires)).1 c.in_default.ensures.none
 
 pub unreachable-requires-in_default-mark : goal.unreachable-requires-in_default-mark
 unreachable-requires-in_default-mark g c =
