@@ -1,18 +1,12 @@
-use Rattle.std.proofs.Common.{sym, ap, subst, ◌∙◌}
+use Rattle.std.proofs.Common.{sym, ap, ◌∙◌}
 use Rattle.link_ends.specs.Fits.{Fits}
-use Rattle.actor_desk.specs.Held.{at, Removes}
-use Rattle.actor_desk.specs.declared.entry.Entry.TheVariants.{Collected}
+use Rattle.actor_desk.specs.Held.{at}
 use Rattle.actor_desk.proofs.Collections.{collected-got, collected-fits}
 use Rattle.actor_desk.proofs.Collected.{IsLaneOf-gone}
 use Rattle.actor_desk.proofs.lane.Lane.redeem.Goals as goal
 
 pub returns-in-Collected-clause-lane : goal.returns-in-Collected-clause-lane
-returns-in-Collected-clause-lane g c =
-    IsLaneOf-gone (Fits g.J.Task.meaning) c.args.self.now _ (g.O.OutEnd.out c.args.end.now) (g.O.OutEnd.out c.credit.new.self)
-    (g.O.OutEnd.credited c.args.end.now) (g.O.OutEnd.credited c.credit.new.self) c.requires c.args.number
-    (c.take-outcome.ensures.room ∙ ap (λ l. l.room) c.self.view_is) (ap (λ l. l.count) c.self.view_is) (ap (λ l. l.last) c.self.view_is)
-    c.take-outcome.result (subst (λ l. Removes l.entries c.take-outcome.new.self.entries c.args.number (Collected c.take-outcome.result)) c.self.view_is c.take-outcome.ensures.removes)
-    c.credit.ensures.same c.credit.ensures.credited
+returns-in-Collected-clause-lane g c = IsLaneOf-gone c.self.view_is c.requires c.args.number c.take-outcome.ensures.room c.take-outcome.result c.take-outcome.ensures.removes c.credit.ensures.same c.credit.ensures.credited
 
 pub returns-in-Collected-clause-given : goal.returns-in-Collected-clause-given
 returns-in-Collected-clause-given g c =
