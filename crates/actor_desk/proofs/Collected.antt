@@ -20,13 +20,6 @@ IsLaneOf-none {fits = fits} {lane} {out} {later} {credited} {after} l same sound
     subst (λ o. IsLaneOf fits lane o after) (sym collects.0)
     (subst (λ k. IsLaneOf fits lane (record out { seen = later.seen }) k) (sym same) (IsLaneOf-seen fits lane out credited l later.seen collects.1 named' sound'))
 
-module _ {J T : Type 0} (fits : Order J → Outcome J T → Type 0) where
-  -- an outcome that the end gives was just got
-  pub IsJustGot-found : (lane : Lane J T) (out later : Outward J T) (credited after number : ℕ) (outcome : Outcome J T) → IsLaneOf fits lane out credited → after ≡ credited
-      → Collects out later (Some (number, outcome)) → SoundOut later after → AreOf fits later.base later.sent later.seen → after < later.got → IsJustGot fits lane later after number outcome
-  IsJustGot-found lane out later credited after number outcome l same collects sound named earned =
-      record { out = out; lane_of = subst (IsLaneOf fits lane out) (sym same) l; collects = collects; sound = sound; named = named; earned = earned }
-
 -- an outcome that was just got, at the lane as the call read it
 module _ {J T : Type 0} {fits : Order J → Outcome J T → Type 0} {was lane : Lane J T} (is : was ≡ lane) {later : Outward J T} {credited number : ℕ} {outcome : Outcome J T} (got : IsJustGot fits lane later credited number outcome) where
   j : IsJustGot fits was later credited number outcome

@@ -7,7 +7,6 @@ use Rattle.std.proofs.lemmas.Option.{slice_get_within, slice_get-get_or, get_or_
 use Rattle.base_words.specs.declared.order.Order.{Order}
 use Rattle.base_words.specs.declared.order.Outcome.{Outcome}
 use Rattle.link_ends.specs.declared.ends.Outward.{Outward}
-use Rattle.link_ends.specs.Calls.{Collects}
 use Rattle.link_ends.specs.Ends.{AreDistinct}
 use Rattle.base_words.proofs.Prefixes.{IsPrefix-self, IsPrefix-along}
 use Rattle.link_ends.proofs.Lists.{slice_get-starts, take-starts}
@@ -31,13 +30,6 @@ placed items n found low contains =
     (k, under, slice_get-get_or items k found (omega arith) ∙ ap Some (sym (get_or-take n items k found under) ∙ contains.2))
 
 module _ {J T : Type 0} where
-  -- an outcome that the end gives, and what the lane makes of it
-  pub CollectsNext-kept : (old new : Lane J T) (out shown later : Outward J T) (credited between after : ℕ) (found : ℕ × Outcome J T) → Collects out shown (Some found)
-      → between ≡ credited → later ≡ shown → new ≡ record old { entries = new.entries } → Keeps old.entries new.entries found.0 found.1 between after
-      → CollectsNext old new out later credited after (Some found)
-  CollectsNext-kept old new out shown later credited between after found collects same out_is rest keeps =
-      (subst (λ o. Collects out o (Some found)) (sym out_is) collects, rest, subst (λ k. Keeps old.entries new.entries found.0 found.1 k after) same keeps)
-
   -- what becomes of the other entries, of the one whose outcome is taken in, and of those that are detached
   module _ (mid new : List (ℕ × Entry J T)) (number : ℕ) (outcome : Outcome J T) (between after : ℕ) where
     Keeps-others : Keeps mid new number outcome between after → (n : ℕ) → n ≢ number → at new n ≡ at mid n

@@ -100,19 +100,3 @@ module _ {J T : Type 0} (kept later : Slab (Outcome J T)) (marks new : List (ℕ
         removes.tallies (λ mark. test (entry_of kept mark)) in
         omega (arith, tally-shown later new test, tally-shown kept marks test, same-tally kept later key None updates new test no_mark_left);
   }
-
-  pub AreKept-taken : slab_len later + 1 ≡ slab_len kept → AreKept later new
-  AreKept-taken less = record {
-    once = λ other. elim (eqb_tells other key) [
-      | inl same ↦
-          let none : tally new (has_key other) ≡ 0 = ap (λ n. tally new (has_key n)) same.1 ∙ no_mark_left in
-          let vacant : one (is_some (get later other)) ≡ 0 = ap (λ n. one (is_some (get later n))) same.1 ∙ ap (λ o. one (is_some o)) updates.changed in
-          omega arith
-      | inr differs ↦
-          let e : tally marks (has_key other) ≡ one (eqb other key) + tally new (has_key other) = removes.tallies (has_key other) in
-          let away : one (eqb other key) ≡ 0 = ap one differs.0 in
-          let same : one (is_some (get later other)) ≡ one (is_some (get kept other)) = ap (λ o. one (is_some o)) (updates.others other differs.1) in
-          omega (arith, k.once other)
-    ];
-    count = let e : tally marks has_any ≡ 1 + tally new has_any = removes.tallies has_any in omega (arith, k.count, less);
-  }

@@ -87,12 +87,12 @@ module _ {J T : Type 0} (fits : Order J → Outcome J T → Type 0) where
         kept = omega (arith, l.kept, adds.tallies is_collected);
       }
 
-  -- the same, as the call tells of its end
-  pub IsLaneOf-accepted : (lane new : Lane J T) (out later : Outward J T) (credited after : ℕ) (order : Order J) (number : ℕ) → IsLaneOf fits lane out credited → after ≡ credited
-      → Sends out credited order later (Ok number) → Adds lane.entries new.entries number Pending
-      → new.room ≡ lane.room → new.count ≡ lane.count + 1 → new.last ≡ number → IsLaneOf fits new later after
-  IsLaneOf-accepted lane new out later credited after order number l same sends adds room count last =
-      subst (λ k. IsLaneOf fits new later k) (sym same) (IsLaneOf-sent lane new out later credited order number l sends adds room count last)
+  -- the same, as the call tells of its end and of the lane as it read it
+  pub IsLaneOf-accepted : {was lane : Lane J T} → was ≡ lane → {out later : Outward J T} {credited after : ℕ} → IsLaneOf fits lane out credited → after ≡ credited → (order : Order J) {number : ℕ} → Sends out credited order later (Ok number)
+      → {entries : List (ℕ × Entry J T)} → Adds was.entries entries number Pending → {room : ℕ} → room ≡ was.room → IsLaneOf fits (record { entries = entries; room = room; count = was.count + 1; last = number }) later after
+  IsLaneOf-accepted {was} is {out} {later} {credited} {after} l same order {number} sends {entries} adds {room} room_is =
+      let new : Lane J T = record { entries = entries; room = room; count = was.count + 1; last = number } in
+      subst (λ k. IsLaneOf fits new later k) (sym same) (IsLaneOf-sent was new out later credited order number (subst (λ lane. IsLaneOf fits lane out credited) (sym is) l) sends adds room_is refl refl)
 
   -- to see more outcomes, or the gate shut, changes nothing of a lane
   pub IsLaneOf-more : (lane : Lane J T) (out : Outward J T) (credited : ℕ) (seen : List (ℕ × Outcome J T)) (closed : Bool) → IsPrefix out.seen seen

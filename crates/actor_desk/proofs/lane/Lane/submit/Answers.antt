@@ -1,9 +1,7 @@
-use Rattle.std.proofs.Common.{◌+◌, refl, sym, ap, subst, ◌∙◌}
+use Rattle.std.proofs.Common.{sym, subst}
 use Rattle.link_ends.specs.Fits.{Fits}
-use Rattle.actor_desk.specs.Held.{Adds}
 use Rattle.actor_desk.specs.Rolls.{IsAbove}
 use Rattle.actor_desk.specs.Lanes.{IsLaneOf}
-use Rattle.actor_desk.specs.declared.entry.Entry.TheVariants.{Pending}
 use Rattle.actor_desk.proofs.Lanes.{next_above, IsLaneOf-accepted, IsLaneOf-refused}
 use Rattle.actor_desk.proofs.lane.Lane.submit.Goals as goal
 
@@ -19,9 +17,4 @@ put-requires-clause-above g c =
     (next_above (Fits g.J.Task.meaning) c.args.self.now (g.O.OutEnd.out c.args.end.now) (g.O.OutEnd.credited c.args.end.now) c.in_ok-number.number c.requires.lane c.in_ok-number.ensures.sends.2)
 
 pub returns-clause-lane : goal.returns-clause-lane
-returns-clause-lane g c =
-    let number = c.in_ok-number.number in
-    IsLaneOf-accepted (Fits g.J.Task.meaning) c.args.self.now _ (g.O.OutEnd.out c.args.end.now) (g.O.OutEnd.out c.send.new.self)
-    (g.O.OutEnd.credited c.args.end.now) (g.O.OutEnd.credited c.send.new.self) c.args.order number c.requires.lane c.send.ensures.credited
-    c.in_ok-number.ensures.sends (subst (λ l. Adds l.entries c.put.new.self.entries number Pending) c.self.view_is c.put.ensures.adds)
-    (c.put.ensures.room ∙ ap (λ l. l.room) c.self.view_is) (ap (λ l. l.count + 1) c.self.view_is) refl
+returns-clause-lane g c = IsLaneOf-accepted (Fits g.J.Task.meaning) c.self.view_is c.requires.lane c.send.ensures.credited c.args.order c.in_ok-number.ensures.sends c.put.ensures.adds c.put.ensures.room
