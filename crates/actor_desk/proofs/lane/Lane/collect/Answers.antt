@@ -4,11 +4,7 @@ use Rattle.actor_desk.proofs.Gathered.{CollectsMany-none, CollectsMany-low, Coll
 use Rattle.actor_desk.proofs.lane.Lane.collect.Goals as goal
 
 pub loop-count-init : goal.loop-count-init
-loop-count-init g c = record {
-  lane = c.requires;
-  untouched = refl;
-  many = CollectsMany-none c.args.self.now (g.O.OutEnd.out c.args.end.now) (g.O.OutEnd.credited c.args.end.now);
-}
+loop-count-init g c = record { lane = c.requires; untouched = refl; many = CollectsMany-none c.args.self.now (g.O.OutEnd.out c.args.end.now) (g.O.OutEnd.credited c.args.end.now) }
 
 pub overflow_add-count : goal.overflow_add-count
 overflow_add-count g c =

@@ -1,15 +1,12 @@
 use Rattle.std.proofs.Common.{sym, subst}
 use Rattle.link_ends.specs.Fits.{Fits}
 use Rattle.actor_desk.specs.Rolls.{IsAbove}
-use Rattle.actor_desk.specs.Lanes.{IsLaneOf}
 use Rattle.actor_desk.proofs.Lanes.{next_above, IsLaneOf-accepted, IsLaneOf-refused}
 use Rattle.actor_desk.proofs.lane.Lane.submit.Goals as goal
 
 pub returns-in_err-number-clause-lane : goal.returns-in_err-number-clause-lane
 returns-in_err-number-clause-lane g c =
-    let fits = Fits g.J.Task.meaning in
-    subst (λ k. IsLaneOf fits c.args.self.now (g.O.OutEnd.out c.send.new.self) k) (sym c.send.ensures.credited)
-    (IsLaneOf-refused fits c.args.self.now (g.O.OutEnd.out c.args.end.now) (g.O.OutEnd.out c.send.new.self) (g.O.OutEnd.credited c.args.end.now) c.args.order _ c.requires.lane c.in_err-number.ensures.sends)
+    rw (c.send.ensures.credited) (IsLaneOf-refused (Fits g.J.Task.meaning) c.args.self.now (g.O.OutEnd.out c.args.end.now) _ (g.O.OutEnd.credited c.args.end.now) c.args.order _ c.requires.lane c.in_err-number.ensures.sends)
 
 pub put-requires-clause-above : goal.put-requires-clause-above
 put-requires-clause-above g c =

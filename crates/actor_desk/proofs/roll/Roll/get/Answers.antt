@@ -6,6 +6,5 @@ use Rattle.actor_desk.proofs.roll.Roll.get.Goals as goal
 
 pub returns : goal.returns
 returns g c =
-    let i = c.self.inside in
     let is = subst (λ lines. IsHeldAt lines c.in_ok-_place._place c.args.number c.in_ok-_place.value) c.deref.ensures.value c.in_ok-_place.ensures.found in
-    sym (at-held i.lines.items c.self.invariant.0 c.in_ok-_place._place _ is) ∙ ap (λ e. at e.entries c.args.number) c.self.view_is
+    sym (at-held _ c.self.invariant.0 c.in_ok-_place._place _ is) ∙ ap (λ e. at e.entries c.args.number) c.self.view_is

@@ -1,6 +1,5 @@
-use Rattle.std.proofs.Common.{Some, refl, set, subst}
-use Rattle.actor_desk.specs.Held.{Becomes}
-use Rattle.actor_desk.specs.Rolls.{held, IsHeldAt}
+use Rattle.std.proofs.Common.{Some, refl, subst}
+use Rattle.actor_desk.specs.Rolls.{IsHeldAt}
 use Rattle.actor_desk.proofs.Rolls.{rising-set, ended-set, Becomes-set}
 use Rattle.actor_desk.proofs.roll.Roll.swap.Goals as goal
 
@@ -15,7 +14,5 @@ invariant_of-self g c =
 
 pub returns-clause-becomes : goal.returns-clause-becomes
 returns-clause-becomes g c =
-    let i = c.self.inside in
     let is = subst (λ lines. IsHeldAt lines c.in_ok-place.place c.args.number c.in_ok-place.before) c.deref.ensures.value c.in_ok-place.ensures.found in
-    subst (λ e. Becomes e.entries (held (set i.lines.items c.in_ok-place.place (record { number = c.args.number; value = Some c.args.value }))) c.args.number c.in_ok-place.before c.args.value) c.self.view_is
-    (Becomes-set i.lines.items c.self.invariant.0 c.in_ok-place.place c.args.number c.in_ok-place.before is c.args.value)
+    rw (← c.self.view_is) (Becomes-set _ c.self.invariant.0 c.in_ok-place.place c.args.number c.in_ok-place.before is c.args.value)
