@@ -1,7 +1,5 @@
-use Rattle.std.proofs.Common.{◌≡◌, ◌+◌, ap, subst, true, ◌∙◌, arith}
-use Rattle.actor_desk.specs.Held.{at, count_of, Becomes}
-use Rattle.actor_desk.specs.Kept.{shown}
-use Rattle.actor_desk.specs.declared.entry.Entry.TheVariants.{Pending, Collected}
+use Rattle.std.proofs.Common.{◌≡◌, ◌+◌, ap, true, ◌∙◌, arith}
+use Rattle.actor_desk.specs.Held.{at, count_of}
 use Rattle.actor_desk.specs.declared.entry.Mark.TheVariants.{Waits, Holds}
 use Rattle.actor_desk.proofs.Kept.{not_both, waits-there, room-kept, became}
 use Rattle.actor_desk.proofs.KeptOutcomes.{Becomes-kept, AreKept-kept}
@@ -12,11 +10,9 @@ insert_reserved-key-requires g c = room-kept _ _ c.self.invariant.0 c.args.numbe
 
 pub returns-clause-becomes : goal.returns-clause-becomes
 returns-clause-becomes g c =
-    let i = c.self.inside in
-    let there = waits-there i.kept i.held.entries c.self.invariant.0 c.args.number (ap (λ s. at s.entries c.args.number) c.self.view_is ∙ c.requires.waits) in
-    subst (λ s. Becomes s.entries (shown c.insert_reserved-key.new.self c.swap.new.self.entries) c.args.number Pending (Collected c.args.outcome)) c.self.view_is
-    (Becomes-kept i.kept c.insert_reserved-key.new.self i.held.entries c.swap.new.self.entries c.args.number c.insert_reserved-key.result c.args.outcome c.self.invariant.0
-    c.insert_reserved-key.ensures.was_vacant c.insert_reserved-key.ensures.updates (became i.held.entries c.swap.new.self.entries c.args.number _ Waits there _ c.in-Some.ensures.becomes))
+    let there = waits-there _ _ c.self.invariant.0 c.args.number (ap (λ s. at s.entries c.args.number) c.self.view_is ∙ c.requires.waits) in
+    rw (← c.self.view_is) (Becomes-kept c.self.inside.kept c.insert_reserved-key.new.self c.self.inside.held.entries c.swap.new.self.entries c.args.number c.insert_reserved-key.result c.args.outcome c.self.invariant.0
+    c.insert_reserved-key.ensures.was_vacant c.insert_reserved-key.ensures.updates (became _ _ c.args.number _ Waits there _ c.in-Some.ensures.becomes))
 
 pub invariant_of-self : goal.invariant_of-self
 invariant_of-self g c =
