@@ -47,7 +47,7 @@ module _ {J T E : Type 0} {fits : Order J → Outcome J T → Type 0} {out : E �
   }
 
   module _ {core : ℕ} (low : core < length told.lanes) {lane : Lane J T} {end : E} (lane_is : lane ≡ get_or desk.lanes core lane) (end_is : end ≡ get_or ends core end) where
-    lane_there : slice_get told.lanes core ≡ Some lane
+    pub lane_there : slice_get told.lanes core ≡ Some lane
     lane_there = found told.lanes core lane low (lane_is ∙ ap (λ (desk : Desk J T). get_or desk.lanes core lane) is)
 
     end_there : slice_get ends core ≡ Some end

@@ -1,5 +1,4 @@
 use Rattle.std.proofs.Common.{sym, ap, ◌∙◌}
-use Rattle.link_ends.specs.Fits.{Fits}
 use Rattle.actor_desk.specs.Held.{at}
 use Rattle.actor_desk.proofs.Collections.{collected-got, collected-fits}
 use Rattle.actor_desk.proofs.Collected.{IsLaneOf-gone}
@@ -9,11 +8,7 @@ pub returns-in-Collected-clause-lane : goal.returns-in-Collected-clause-lane
 returns-in-Collected-clause-lane g c = IsLaneOf-gone c.self.view_is c.requires c.args.number c.take-outcome.ensures.room c.take-outcome.result c.take-outcome.ensures.removes c.credit.ensures.same c.credit.ensures.credited
 
 pub returns-in-Collected-clause-given : goal.returns-in-Collected-clause-given
-returns-in-Collected-clause-given g c =
-    collected-got (Fits g.J.Task.meaning) c.args.self.now (g.O.OutEnd.out c.args.end.now) (g.O.OutEnd.credited c.args.end.now) c.requires c.args.number c.take-outcome.result
-    (ap (λ l. at l.entries c.args.number) (sym c.self.view_is) ∙ c.take-outcome.ensures.removes.was)
+returns-in-Collected-clause-given g c = collected-got _ _ _ _ c.requires c.args.number c.take-outcome.result (ap (λ l. at l.entries c.args.number) (sym c.self.view_is) ∙ c.take-outcome.ensures.removes.was)
 
 pub returns-in-Collected-clause-fits : goal.returns-in-Collected-clause-fits
-returns-in-Collected-clause-fits g c =
-    collected-fits (Fits g.J.Task.meaning) c.args.self.now (g.O.OutEnd.out c.args.end.now) (g.O.OutEnd.credited c.args.end.now) c.requires c.args.number c.take-outcome.result
-    (ap (λ l. at l.entries c.args.number) (sym c.self.view_is) ∙ c.take-outcome.ensures.removes.was)
+returns-in-Collected-clause-fits g c = collected-fits _ _ _ _ c.requires c.args.number c.take-outcome.result (ap (λ l. at l.entries c.args.number) (sym c.self.view_is) ∙ c.take-outcome.ensures.removes.was)

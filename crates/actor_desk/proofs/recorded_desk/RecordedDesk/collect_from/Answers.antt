@@ -9,10 +9,7 @@ loop-core-init g c =
     let invariant = subst (λ desk. IsWritten (terms_of_desk desk) desk.journal.notes × KnowsLanes desk) c.self.view_is c.self.invariant in
     let none : CollectsFrom c.args.core c.args.self.now 0 c.args.self.now = ([], tt, refl, refl) in
     let counted : 0 + (g.O.OutEnd.out c.args.end.now).got ≡ (g.O.OutEnd.out c.args.end.now).got = omega arith in
-    assumption (
-      stays_nothing c.args.self.now invariant.1 c.args.core (g.O.OutEnd.out c.args.end.now) (g.O.OutEnd.credited c.args.end.now) invariant.0 c.requires.beside c.requires.lane,
-      IsPrefix-self (g.O.OutEnd.out c.args.end.now).seen,
-    )
+    assumption (stays_nothing c.args.self.now invariant.1 c.args.core (g.O.OutEnd.out c.args.end.now) (g.O.OutEnd.credited c.args.end.now) invariant.0 c.requires.beside c.requires.lane, IsPrefix-self (g.O.OutEnd.out c.args.end.now).seen)
 
 pub collect_one-requires : goal.collect_one-requires
 collect_one-requires g c = let loop = c.loop-core.invariant in assumption (loop, loop.stays)
@@ -48,7 +45,6 @@ returns g c =
     let loop = c.loop-core.invariant in
     let gets = c.loop-core-test.ensures.gets in
     let gathered = loop.gathered in
-    let sound = c.requires.lane.lane_of.sound in
     record {
       collects = gathers_no_more c.args.core c.args.self.now c.loop-core.self c.collect_one.new.self (g.O.OutEnd.out c.args.end.now) (g.O.OutEnd.out c.loop-core.end) (g.O.OutEnd.out c.collect_one.new.end) c.loop-core.count loop.gathered loop.end loop.longer gets;
       books = c.collect_one.ensures.books ∙ loop.books;
