@@ -1,15 +1,9 @@
 -- What a core tells ahead of a pick is what its journal says; and a core picks: the right pick takes a job out, or hands it back, or the core says why there is none.
-use Rattle.actor_core.proofs.Names.{◌≡◌, ℕ, ◌-◌, ◌^◌, Bool, true, false, List, [], ◌∷◌, refl, sym, ◌∙◌, ap, subst}
-use Rattle.actor_core.proofs.Names.{inl, inr, ⊎_elim, Option, IsSome, arith, None, Result, Ok, Err, JobId, Note, KeyAtMost, turns, has_work}
-use Rattle.actor_core.proofs.Names.{no_work, work_of_line, Meaning, waiting_of, Turn, Start, Resume, Idle, PickError}
-use Rattle.actor_core.proofs.Names.{Busy, CoreView, runtime_of, TakesOut, TellsAhead, some_front, IsJobOut}
-use Rattle.actor_core.proofs.Names.{RecordedView, IsRecorded, terms_at, IsBack, ◌+◌, ◌<◌, ◌≤◌, ◌++◌, length, add-zero}
-use Rattle.actor_core.proofs.Names.{◌==◌, Some, is_some, same_Some, most_turns, Pick, Job}
-use Rattle.actor_core.proofs.Names.{Reason, Journal, is_told, number_if, length-with_last_if, if_from}
-use Rattle.actor_core.proofs.Names.{name_ended, given_outcomes, held_count, inside_count, HandsBack, polls_made}
-use Rattle.actor_core.proofs.Names.{poll_note, HasTask, note_taken, sum_upto, given_count, IsPick, IsHandBack}
-use Rattle.actor_core.proofs.Names.{owed_back, known_of, among, same_as_itself, without_job, option_map, QueuesView}
-use Rattle.actor_core.proofs.Names.{Line, Marks, none-some, JobOut, CorePicks, names_of, Returned, Picks}
+use Rattle.actor_core.proofs.Names.{◌≡◌, ℕ, ◌-◌, ◌^◌, Bool, true, false, List, [], ◌∷◌, refl, sym, ◌∙◌, ap, subst, inl, inr, ⊎_elim, Option, IsSome, arith, None, Result, Ok, Err, JobId, Note, KeyAtMost, turns, has_work, no_work, work_of_line}
+use Rattle.actor_core.proofs.Names.{Meaning, waiting_of, Turn, Start, Resume, Idle, PickError, Busy, CoreView, runtime_of, TakesOut, TellsAhead, some_front, IsJobOut, RecordedView, IsRecorded, terms_at, IsBack, ◌+◌, ◌<◌, ◌≤◌, ◌++◌, length, add-zero}
+use Rattle.actor_core.proofs.Names.{◌==◌, Some, is_some, same_Some, most_turns, Pick, Job, Reason, Journal, is_told, number_if, length-with_last_if, if_from, name_ended, given_outcomes, held_count, inside_count, HandsBack, polls_made, poll_note}
+use Rattle.actor_core.proofs.Names.{HasTask, note_taken, sum_upto, given_count, IsPick, IsHandBack, owed_back, known_of, among, same_as_itself, without_job, option_map, QueuesView, Line, Marks, none-some, JobOut, CorePicks, names_of, Returned}
+use Rattle.actor_core.proofs.Names.{Picks}
 use Rattle.core_core.specs.declared.turn.Ahead.{Ahead}
 use Rattle.core_core.specs.declared.turn.Ahead.TheVariants as ahead
 use Rattle.core_core.specs.declared.turn.Turn.TheVariants.{Back}
@@ -23,8 +17,7 @@ use Rattle.actor_core.proofs.FrontTasks.{its_task, one_fewer, still_tasks}
 use Rattle.actor_core.proofs.KeptPicks.{kept-picked, kept-returned, picked_view, returned_view, right_pick}
 use Rattle.actor_core.proofs.EndsKept.{ungiven_if, not_given}
 use Rattle.base_words.specs.declared.note.OutcomeNote.TheVariants as outcomes
-use Rattle.actor_core.proofs.QuietSteps.{nobody, quiet-picked, stepped, IsQuietStep}
-use Rattle.actor_core.proofs.QuietSteps.{everyone, HasDone, nothing_did, done_so}
+use Rattle.actor_core.proofs.QuietSteps.{nobody, quiet-picked, stepped, IsQuietStep, everyone, HasDone, nothing_did, done_so}
 
 -- of two pairs that are each at most the other, the numbers are the same
 pub one_key : (runtime queue other_runtime other : ℕ) → KeyAtMost runtime queue other_runtime other → KeyAtMost other_runtime other runtime queue → queue ≡ other

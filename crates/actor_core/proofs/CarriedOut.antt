@@ -1,26 +1,16 @@
 -- What a core does with an order that is delivered to it, case by case, told in one form.
-use Rattle.actor_core.proofs.Names.{Line, Marks, MayStand, Wake, ◌&&◌, is_inside, is_return, job_at, out_told, parked_of, suc, ⊎_elim}
-use Rattle.actor_core.proofs.Names.{All-append, ◌≡◌, ℕ, ◌+◌, ◌≤◌, true, false, List, [], ◌∷◌, ◌++◌, length}
-use Rattle.actor_core.proofs.Names.{refl, sym, ◌∙◌, ap, subst, arith, add-zero, cond, ◌==◌, Option, Some, None}
-use Rattle.actor_core.proofs.Names.{is_some, All, length-append, All-cons, All-nil, InRange, JobId, Note, Order, Job}
-use Rattle.actor_core.proofs.Names.{Create, SetShares, Reason, Answer, Journal, EachNote, with_last, delivered_names}
-use Rattle.actor_core.proofs.Names.{given_outcomes, number_if, refusal, IsAnswer, has_effect, IsNextDelivered}
-use Rattle.actor_core.proofs.Names.{length-with_last_if, queue_count, waiting_of, held_count, CoreView, inside_count}
-use Rattle.actor_core.proofs.Names.{Enters, Creates, Weighs, counted, without_job, polls_made, IsDelivery, entry_note}
-use Rattle.actor_core.proofs.Names.{IsKept, DeliversAs, GivesMore, told_under, OutcomeNote, RecordedView, terms_at}
-use Rattle.actor_core.proofs.Names.{sum_upto, delivered_count, given_count, le-leb, Close, CloseCore, Mode, closes}
-use Rattle.actor_core.proofs.Names.{queue_mode, core_mode, created_count, mode_of, HasClosed, Agrees, inl, ◌≢◌}
-use Rattle.actor_core.proofs.Names.{IfSome, reverse, IsMeaning, Fits, option_map, outcome_note, outcome_delivered}
-use Rattle.actor_core.proofs.Names.{lt-leb, IsSpelledOrder, Delivered, Took}
+use Rattle.actor_core.proofs.Names.{Line, Marks, MayStand, Wake, ◌&&◌, is_inside, is_return, job_at, out_told, parked_of, suc, ⊎_elim, All-append, ◌≡◌, ℕ, ◌+◌, ◌≤◌, true, false, List, [], ◌∷◌, ◌++◌, length, refl, sym, ◌∙◌, ap, subst, arith}
+use Rattle.actor_core.proofs.Names.{add-zero, cond, ◌==◌, Option, Some, None, is_some, All, length-append, All-cons, All-nil, InRange, JobId, Note, Order, Job, Create, SetShares, Reason, Answer, Journal, EachNote, with_last, delivered_names}
+use Rattle.actor_core.proofs.Names.{given_outcomes, number_if, refusal, IsAnswer, has_effect, IsNextDelivered, length-with_last_if, queue_count, waiting_of, held_count, CoreView, inside_count, Enters, Creates, Weighs, counted, without_job}
+use Rattle.actor_core.proofs.Names.{polls_made, IsDelivery, entry_note, IsKept, DeliversAs, GivesMore, told_under, OutcomeNote, RecordedView, terms_at, sum_upto, delivered_count, given_count, le-leb, Close, CloseCore, Mode, closes, queue_mode}
+use Rattle.actor_core.proofs.Names.{core_mode, created_count, mode_of, HasClosed, Agrees, inl, ◌≢◌, IfSome, reverse, IsMeaning, Fits, option_map, outcome_note, outcome_delivered, lt-leb, IsSpelledOrder, Delivered, Took}
 use Rattle.base_words.specs.declared.note.Note.TheVariants as writes
 use Rattle.base_words.specs.declared.order.Answer.TheVariants as answers
 pub use Rattle.actor_core.specs.Ends.{KeepsLists}
 use Rattle.base_words.specs.declared.note.OutcomeNote.TheVariants as outcome
-use Rattle.actor_core.proofs.KeptDeliveries.{kept-took, kept-back, kept-answered, agrees-answered, kept-effect}
-use Rattle.actor_core.proofs.KeptDeliveries.{kept-created, kept-weighed}
+use Rattle.actor_core.proofs.KeptDeliveries.{kept-took, kept-back, kept-answered, agrees-answered, kept-effect, kept-created, kept-weighed}
 use Rattle.actor_core.proofs.KeptClosings.{agrees-core_closed, agrees-queue_closed, ended_if}
-use Rattle.actor_core.proofs.KeptParks.{absent_outside, agrees-line_woken, agrees-out_woken, agrees-park_ended, inside-line}
-use Rattle.actor_core.proofs.KeptParks.{inside-out, inside-parked}
+use Rattle.actor_core.proofs.KeptParks.{absent_outside, agrees-line_woken, agrees-out_woken, agrees-park_ended, inside-line, inside-out, inside-parked}
 pub use Rattle.actor_core.proofs.Inside.{HoldsOfAll, HoldsSame, SameOut, same_out, same_out-holds, same_out-some, same_out-told}
 use Rattle.actor_core.proofs.Inside.{carries-kept_wake, carries-same, carries-woken, holds-closed}
 use Rattle.core_core.specs.Closing as core_says

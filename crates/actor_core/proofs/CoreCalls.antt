@@ -1,14 +1,8 @@
 -- A core beside its journal creates a queue before anything else is done, closes by itself, and shuts the gate of a sender, whose end stays beside it.
-use Rattle.actor_core.proofs.Names.{HaveTasks, held_count, is_return, parked_of, waiting_of, ◌&&◌}
-use Rattle.actor_core.proofs.Names.{DeliversAs, EachNote, none-some, ◌≡◌, ℕ, ◌+◌, List, [], ◌∷◌, refl, sym, ◌∙◌, ap}
-use Rattle.actor_core.proofs.Names.{subst, arith, add-zero, is_some, Result, Ok, Err, InRange, JobId, Note}
-use Rattle.actor_core.proofs.Names.{Journal, IsOpening, number_if, Meaning, queue_count, CreateError, TooMany, Memory}
-use Rattle.actor_core.proofs.Names.{CoreView, inside_count, Creates, polls_made, RecordedView, terms_at, IsRecorded}
-use Rattle.actor_core.proofs.Names.{HasTask, CreatesQueue, Bool, true, false, cond, Option, Some, None, Mode, Order}
-use Rattle.actor_core.proofs.Names.{closes, core_mode, effect_awaited, CarriesOut, ClosesCore, ClosesItself, ◌≤◌}
-use Rattle.actor_core.proofs.Names.{length, reverse, ◌≢◌, IsSome, slice_set, eq-eqb, ne_eqb, true≢false}
-use Rattle.actor_core.proofs.Names.{length-append, IsNextShut, final_count, or_else, gate_of, ShutsGate, Inward}
-use Rattle.actor_core.proofs.Names.{SoundIn, Shuts, IsInOf, TellsShut, given_count, sum_upto, JobOut, CoreCreates}
+use Rattle.actor_core.proofs.Names.{HaveTasks, held_count, is_return, parked_of, waiting_of, ◌&&◌, DeliversAs, EachNote, none-some, ◌≡◌, ℕ, ◌+◌, List, [], ◌∷◌, refl, sym, ◌∙◌, ap, subst, arith, add-zero, is_some, Result, Ok, Err, InRange, JobId}
+use Rattle.actor_core.proofs.Names.{Note, Journal, IsOpening, number_if, Meaning, queue_count, CreateError, TooMany, Memory, CoreView, inside_count, Creates, polls_made, RecordedView, terms_at, IsRecorded, HasTask, CreatesQueue, Bool, true, false}
+use Rattle.actor_core.proofs.Names.{cond, Option, Some, None, Mode, Order, closes, core_mode, effect_awaited, CarriesOut, ClosesCore, ClosesItself, ◌≤◌, length, reverse, ◌≢◌, IsSome, slice_set, eq-eqb, ne_eqb, true≢false, length-append, IsNextShut}
+use Rattle.actor_core.proofs.Names.{final_count, or_else, gate_of, ShutsGate, Inward, SoundIn, Shuts, IsInOf, TellsShut, given_count, sum_upto, JobOut, CoreCreates}
 use Rattle.base_words.specs.declared.note.Note.TheVariants as writes
 use Rattle.actor_core.specs.Agreement.{IsKept}
 use Rattle.actor_core.proofs.Kept.{kept_after}

@@ -1,10 +1,7 @@
 -- The ends of links stay beside a core and its journal as an order is delivered.
-use Rattle.actor_core.proofs.Names.{length-map, ◌≡◌, ℕ, ◌+◌, cond, length, refl, sym, ◌∙◌, ap, subst, ◌⊎◌, ⊎_elim}
-use Rattle.actor_core.proofs.Names.{arith, ◌==◌, Option, Some, None, slice_get, option_map, eq-eqb, ne_eqb, JobId}
-use Rattle.actor_core.proofs.Names.{Envelope, Order, Outcome, OutcomeNote, with_last, outcome_note, given_outcomes}
-use Rattle.actor_core.proofs.Names.{number_if, Inward, SoundIn, AreNamed, Takes, RecordedView, order_taken}
-use Rattle.actor_core.proofs.Names.{delivered_count, IsInOf, IsInOwing, GivesMore, told_under, KeepsIn, IsSameSeat}
-use Rattle.actor_core.proofs.Names.{named_outcomes, IsNextIn, Receives}
+use Rattle.actor_core.proofs.Names.{length-map, ◌≡◌, ℕ, ◌+◌, cond, length, refl, sym, ◌∙◌, ap, subst, ◌⊎◌, ⊎_elim, arith, ◌==◌, Option, Some, None, slice_get, option_map, eq-eqb, ne_eqb, JobId, Envelope, Order, Outcome, OutcomeNote, with_last}
+use Rattle.actor_core.proofs.Names.{outcome_note, given_outcomes, number_if, Inward, SoundIn, AreNamed, Takes, RecordedView, order_taken, delivered_count, IsInOf, IsInOwing, GivesMore, told_under, KeepsIn, IsSameSeat, named_outcomes, IsNextIn}
+use Rattle.actor_core.proofs.Names.{Receives}
 use Rattle.actor_core.proofs.Received.{order_taken-parts}
 use Rattle.link_ends.proofs.Lists.{slice_get-seen}
 use Rattle.actor_core.proofs.EndsKept.{keeps_in, final_of-more}

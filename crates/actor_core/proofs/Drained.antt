@@ -1,6 +1,5 @@
 -- A core is drained where its journal says so.
-use Rattle.actor_core.proofs.Names.{sym, ◌∙◌, ap, Some, false_from_ne_true, true≢false, has_work, Meaning}
-use Rattle.actor_core.proofs.Names.{RecordedView, terms_at, IsRecorded, Parks, [], names_parked, parked_of, refl, ◌∷◌, ◌≡◌}
+use Rattle.actor_core.proofs.Names.{sym, ◌∙◌, ap, Some, false_from_ne_true, true≢false, has_work, Meaning, RecordedView, terms_at, IsRecorded, Parks, [], names_parked, parked_of, refl, ◌∷◌, ◌≡◌}
 use Rattle.base_words.specs.Closing as told
 use Rattle.core_core.specs.Closing as core
 use Rattle.actor_core.proofs.Kept.{working}

@@ -1,13 +1,8 @@
 -- The ends of links beside a journal that grows; and a job that is inside was given no outcome, neither by its journal nor on its end.
-use Rattle.actor_core.proofs.Names.{◌≡◌, ℕ, ◌+◌, List, [], ◌∷◌, length, refl, sym, ◌∙◌, ap, arith}
-use Rattle.actor_core.proofs.Names.{Option, Some, slice_get, Bool, true, false, length-append, JobId, OutcomeNote}
-use Rattle.actor_core.proofs.Names.{with_last, Order, given_outcomes, Inward, final_count}
-use Rattle.actor_core.proofs.Names.{SeesMore, final_of, RecordedView, order_taken, delivered_count, IsInOf}
-use Rattle.actor_core.proofs.Names.{LeavesOwed, IsUngiven, IsSameSeat, named_outcomes, subst, ◌⊎◌, ⊎_elim, inl, inr}
-use Rattle.actor_core.proofs.Names.{cond, ◌==◌, None, or_parts, eqb-true, true≢false, option_map, none-some}
-use Rattle.actor_core.proofs.Names.{same_Some, slice_get-map, Note, Job, IsAnswer, if_from, name_ended, outcome_given}
-use Rattle.actor_core.proofs.Names.{DeliversAs, Journal, EachNote, is_told, same_name, is_name, outcome_note}
-use Rattle.actor_core.proofs.Names.{same_as_itself, name_of, ◌≤◌, slice_get_within, ◌<◌}
+use Rattle.actor_core.proofs.Names.{◌≡◌, ℕ, ◌+◌, List, [], ◌∷◌, length, refl, sym, ◌∙◌, ap, arith, Option, Some, slice_get, Bool, true, false, length-append, JobId, OutcomeNote, with_last, Order, given_outcomes, Inward, final_count, SeesMore}
+use Rattle.actor_core.proofs.Names.{final_of, RecordedView, order_taken, delivered_count, IsInOf, LeavesOwed, IsUngiven, IsSameSeat, named_outcomes, subst, ◌⊎◌, ⊎_elim, inl, inr, cond, ◌==◌, None, or_parts, eqb-true, true≢false, option_map}
+use Rattle.actor_core.proofs.Names.{none-some, same_Some, slice_get-map, Note, Job, IsAnswer, if_from, name_ended, outcome_given, DeliversAs, Journal, EachNote, is_told, same_name, is_name, outcome_note, same_as_itself, name_of, ◌≤◌}
+use Rattle.actor_core.proofs.Names.{slice_get_within, ◌<◌}
 use Rattle.link_ends.proofs.Lists.{slice_get-seen, slice_get-with_last}
 use Rattle.base_words.specs.declared.note.Note.TheVariants as writes
 

@@ -1,8 +1,6 @@
 -- What a note adds to the figures, and the tally of one queue that is set.
-use Rattle.actor_core.proofs.AgreementNames.{get_or-set_other, CoreView, no_tally, Tally, queue_of, Reason, Figures}
-use Rattle.actor_core.proofs.AgreementNames.{counted_up, figures_in, figures_noted, figures_of, figures_told, no_figures, plus}
-use Rattle.actor_core.proofs.AgreementNames.{poll_note, Bool, JobId, Journal, List, Note, Some, ap, arith, cond, get_or}
-use Rattle.actor_core.proofs.AgreementNames.{get_or-set_same, has_bursts, length, refl, set, true, false, ℕ, ◌+◌, ◌<◌, ◌==◌, ◌∙◌, ◌∷◌, ◌≡◌, clamped}
+use Rattle.actor_core.proofs.AgreementNames.{get_or-set_other, CoreView, no_tally, Tally, queue_of, Reason, Figures, counted_up, figures_in, figures_noted, figures_of, figures_told, no_figures, plus, poll_note, Bool, JobId, Journal, List, Note}
+use Rattle.actor_core.proofs.AgreementNames.{Some, ap, arith, cond, get_or, get_or-set_same, has_bursts, length, refl, set, true, false, ℕ, ◌+◌, ◌<◌, ◌==◌, ◌∙◌, ◌∷◌, ◌≡◌, clamped}
 use Rattle.base_words.specs.declared.note.Note.TheVariants as writes
 use Rattle.base_words.specs.Sums.{finished_count}
 

@@ -1,21 +1,11 @@
 -- A core beside its journal takes a further job of the open turn out, and ends the turn; or nothing follows.
-use Rattle.actor_core.proofs.Names.{◌≡◌, ℕ, Bool, true, false, List, [], ◌∷◌, refl, sym, ◌∙◌, ap, subst}
-use Rattle.actor_core.proofs.Names.{arith, None, JobId, Note}
-use Rattle.actor_core.proofs.Names.{Meaning, Turn, Start, Resume, Idle}
-use Rattle.actor_core.proofs.Names.{CoreView, IsJobOut}
-use Rattle.actor_core.proofs.Names.{RecordedView, IsRecorded, terms_at, ◌+◌, ◌≤◌, ◌++◌, length, add-zero}
-use Rattle.actor_core.proofs.Names.{Some, same_Some}
-use Rattle.actor_core.proofs.Names.{Journal}
-use Rattle.actor_core.proofs.Names.{held_count, inside_count, polls_made}
-use Rattle.actor_core.proofs.Names.{poll_note, HasTask, sum_upto, given_count}
-use Rattle.actor_core.proofs.Names.{QueuesView}
-use Rattle.actor_core.proofs.Names.{HaveTasks, Marks, none-some, JobOut, names_of}
+use Rattle.actor_core.proofs.Names.{◌≡◌, ℕ, Bool, true, false, List, [], ◌∷◌, refl, sym, ◌∙◌, ap, subst, arith, None, JobId, Note, Meaning, Turn, Start, Resume, Idle, CoreView, IsJobOut, RecordedView, IsRecorded, terms_at, ◌+◌, ◌≤◌, ◌++◌, length}
+use Rattle.actor_core.proofs.Names.{add-zero, Some, same_Some, Journal, held_count, inside_count, polls_made, poll_note, HasTask, sum_upto, given_count, QueuesView, HaveTasks, Marks, none-some, JobOut, names_of}
 use Rattle.core_core.specs.declared.turn.Turn.TheVariants.{Back}
 use Rattle.actor_core.proofs.Sums.{sum_upto-same}
 use Rattle.actor_core.proofs.AgreementNames.{FollowsOut, IsOpenTurn, OpenTurn, may_go_on}
 use Rattle.actor_core.proofs.Received.{tasks_stay}
-use Rattle.actor_core.proofs.QuietSteps.{nobody, stepped, IsQuietStep}
-use Rattle.actor_core.proofs.QuietSteps.{everyone, HasDone, nothing_did, done_so}
+use Rattle.actor_core.proofs.QuietSteps.{nobody, stepped, IsQuietStep, everyone, HasDone, nothing_did, done_so, quiet-followed, quiet-turned}
 use Rattle.base_words.specs.Bursts.{queue_in_turn}
 use Rattle.std.specs.Prelude.{IfSome, IsSome, Option, is_some}
 use Rattle.base_words.specs.declared.note.Note.TheVariants as writes
@@ -26,7 +16,6 @@ use Rattle.actor_core.specs.Further.{EndsTurn, Follows, IsFurther, NothingFollow
 use Rattle.actor_core.proofs.FrontLeft.{KnowsFront, LeavesFront, knows_front}
 use Rattle.actor_core.proofs.FrontTasks.{its_task, one_fewer, still_tasks}
 use Rattle.actor_core.proofs.KeptTurns.{ended_view, ends_turn, followed_view, goes_nowhere, kept-ended, kept-followed, may_go_on-agrees, turn_goes_on}
-use Rattle.actor_core.proofs.QuietSteps.{quiet-followed, quiet-turned}
 
 -- the note of a further poll settles none
 no_polls : {T : Type 0} (which name : JobId) (was_started : Bool) (journal : Journal T) → polls_made which (poll_note name was_started ∷ journal) ≡ polls_made which journal

@@ -1,21 +1,8 @@
 -- The head of a line goes out or back: what its journal tells of it, and what stays of all other jobs.
-use Rattle.actor_core.proofs.AgreementNames.{Line, Marks, brings_work, is_wake_kept, marks_told, name_parked, name_parking, parked}
-use Rattle.actor_core.proofs.AgreementNames.{still_parked, unparked}
-use Rattle.actor_core.proofs.AgreementNames.{⊎_elim, cases_lt, get_or_past, All-head}
-use Rattle.actor_core.proofs.AgreementNames.{All-tail, same_Some, CoreView, JobOut}
-use Rattle.actor_core.proofs.AgreementNames.{known_of, Distinct}
-use Rattle.actor_core.proofs.AgreementNames.{apart_of, line-turn, line-turn_elsewhere, among}
-use Rattle.actor_core.proofs.AgreementNames.{is_told-start_elsewhere}
-use Rattle.actor_core.proofs.AgreementNames.{return_reason, name_started}
-use Rattle.actor_core.proofs.AgreementNames.{jobs_out, name_joining, name_leaving}
-use Rattle.actor_core.proofs.AgreementNames.{charge_noted, queue_of}
-use Rattle.actor_core.proofs.AgreementNames.{AreMarked, IsJobOut, IsKept, names_of}
-use Rattle.actor_core.proofs.AgreementNames.{JobId, Journal, None, Note}
-use Rattle.actor_core.proofs.AgreementNames.{Option, Some, Terms, [], ap, arith, effect_awaited, false}
-use Rattle.actor_core.proofs.AgreementNames.{false_from_ne_true, is_told, queue_just_picked}
-use Rattle.actor_core.proofs.AgreementNames.{same_as_itself, same_name, subst, sym, ℕ}
-use Rattle.actor_core.proofs.AgreementNames.{◌<◌, ◌∙◌, ◌∷◌, ◌≡◌, ChangesLine, QueuesView, no_queue}
-use Rattle.actor_core.proofs.AgreementNames.{line, queue_count, waiting_of}
+use Rattle.actor_core.proofs.AgreementNames.{Line, Marks, brings_work, is_wake_kept, marks_told, name_parked, name_parking, parked, still_parked, unparked, ⊎_elim, cases_lt, get_or_past, All-head, All-tail, same_Some, CoreView, JobOut, known_of}
+use Rattle.actor_core.proofs.AgreementNames.{Distinct, apart_of, line-turn, line-turn_elsewhere, among, is_told-start_elsewhere, return_reason, name_started, jobs_out, name_joining, name_leaving, charge_noted, queue_of, AreMarked, IsJobOut, IsKept}
+use Rattle.actor_core.proofs.AgreementNames.{names_of, JobId, Journal, None, Note, Option, Some, Terms, [], ap, arith, effect_awaited, false, false_from_ne_true, is_told, queue_just_picked, same_as_itself, same_name, subst, sym, ℕ, ◌<◌, ◌∙◌, ◌∷◌}
+use Rattle.actor_core.proofs.AgreementNames.{◌≡◌, ChangesLine, QueuesView, no_queue, line, queue_count, waiting_of}
 use Rattle.base_words.specs.declared.note.Note.TheVariants as writes
 use Rattle.core_core.specs.Closing as core
 use Rattle.actor_core.proofs.Places.{each_line, everywhere}

@@ -1,15 +1,6 @@
 -- The head of a line goes out or back: one job fewer is inside, and all others keep their tasks.
-use Rattle.actor_core.proofs.Names.{◌≡◌, ℕ, List, ◌∷◌, sym, ◌∙◌, ap, subst}
-use Rattle.actor_core.proofs.Names.{arith, JobId, Note}
-use Rattle.actor_core.proofs.Names.{Meaning, waiting_of}
-use Rattle.actor_core.proofs.Names.{CoreView}
-use Rattle.actor_core.proofs.Names.{RecordedView, IsRecorded, ◌+◌, ◌++◌, length}
-use Rattle.actor_core.proofs.Names.{All, is_some, All-head, All-tail}
-use Rattle.actor_core.proofs.Names.{number_if}
-use Rattle.actor_core.proofs.Names.{held_count, inside_count, polls_made}
-use Rattle.actor_core.proofs.Names.{HasTask}
-use Rattle.actor_core.proofs.Names.{QueuesView}
-use Rattle.actor_core.proofs.Names.{HaveTasks, Marks, parked_of}
+use Rattle.actor_core.proofs.Names.{◌≡◌, ℕ, List, ◌∷◌, sym, ◌∙◌, ap, subst, arith, JobId, Note, Meaning, waiting_of, CoreView, RecordedView, IsRecorded, ◌+◌, ◌++◌, length, All, is_some, All-head, All-tail, number_if, held_count, inside_count}
+use Rattle.actor_core.proofs.Names.{polls_made, HasTask, QueuesView, HaveTasks, Marks, parked_of}
 use Rattle.actor_core.proofs.Places.{each_line}
 use Rattle.actor_core.proofs.FrontLeft.{LeavesFront}
 use Rattle.actor_core.proofs.Inside.{HoldsOfAll}

@@ -1,7 +1,6 @@
 -- A core among its ends, where an outcome was given on one of them.
-use Rattle.actor_core.proofs.TurnWords.{◌≡◌, ◌≢◌, ℕ, ◌≤◌, List, get_or, refl, sym, ◌∙◌, ap, subst, arith, ⊎_elim, cases_eq, slice_get-get_or, slice_get_within, option_map, Option, Some, slice_get}
-use Rattle.actor_core.proofs.TurnWords.{JobId, OutcomeNote, Order, Outcome, outcome_note, Meaning, IsOutOf, AreOutsOf, DeskView, RecordedView, desk_of, IsInOf, IsInOwing, told_under, seen_by}
-use Rattle.actor_core.proofs.TurnWords.{Gave, IsAround, Reach, SeeGiven, Sides, AreAround, PollsAsOwed, none_owed, owed_under}
+use Rattle.actor_core.proofs.TurnWords.{◌≡◌, ◌≢◌, ℕ, ◌≤◌, List, get_or, refl, sym, ◌∙◌, ap, subst, arith, ⊎_elim, cases_eq, slice_get-get_or, slice_get_within, option_map, Option, Some, slice_get, JobId, OutcomeNote, Order, Outcome, outcome_note}
+use Rattle.actor_core.proofs.TurnWords.{Meaning, IsOutOf, AreOutsOf, DeskView, RecordedView, desk_of, IsInOf, IsInOwing, told_under, seen_by, Gave, IsAround, Reach, SeeGiven, Sides, AreAround, PollsAsOwed, none_owed, owed_under}
 use Rattle.std.proofs.Common.{cond}
 use Rattle.std.proofs.lemmas.Bool.{eq-eqb}
 use Rattle.std.specs.Prelude.{None}

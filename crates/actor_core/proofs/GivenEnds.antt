@@ -1,9 +1,6 @@
 -- An outcome that is owed may be given on the end of its sender, and is owed no more then.
-use Rattle.actor_core.proofs.Names.{◌≡◌, ℕ, [], ◌∷◌, ◌++◌, refl, sym, ◌∙◌, ap, subst, arith, cond, Option, Some, None}
-use Rattle.actor_core.proofs.Names.{IfSome, option_map, eq-eqb, map-append, JobId, Order, Job, Outcome, Reason}
-use Rattle.actor_core.proofs.Names.{outcome_note, Meaning, Inward, MayGive, Fits, Parked, Settled, Stayed, Yielded, IsSentUnder}
-use Rattle.actor_core.proofs.Names.{outcome_settled, MayAnswer, RecordedView, IsRecorded, IsTaken, order_taken}
-use Rattle.actor_core.proofs.Names.{IsInOf, IsInOwing, Gives, told_under, name_of, named_outcomes, Finished}
+use Rattle.actor_core.proofs.Names.{◌≡◌, ℕ, [], ◌∷◌, ◌++◌, refl, sym, ◌∙◌, ap, subst, arith, cond, Option, Some, None, IfSome, option_map, eq-eqb, map-append, JobId, Order, Job, Outcome, Reason, outcome_note, Meaning, Inward, MayGive, Fits, Parked}
+use Rattle.actor_core.proofs.Names.{Settled, Stayed, Yielded, IsSentUnder, outcome_settled, MayAnswer, RecordedView, IsRecorded, IsTaken, order_taken, IsInOf, IsInOwing, Gives, told_under, name_of, named_outcomes, Finished}
 use Rattle.base_words.specs.declared.order.Outcome.TheVariants as outcome
 use Rattle.base_words.specs.declared.note.OutcomeNote.TheVariants as note
 

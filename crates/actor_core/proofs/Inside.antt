@@ -1,7 +1,6 @@
 -- The jobs inside a core: what holds of each of them holds on as they change places, and the job that is out stays the same as its wake is kept.
-use Rattle.actor_core.proofs.AgreementNames.{All-append, All-cons, All-head, All-nil, All-tail, Bool, CoreView, IsJobOut, JobId, JobOut}
-use Rattle.actor_core.proofs.AgreementNames.{Journal, Line, Marks, None, Option, Parks, QueuesView, Some, [], ap, awake, false, held_count}
-use Rattle.actor_core.proofs.AgreementNames.{is_some, map, parked_of, refl, same_Some, subst, sym, true, waiting_of, ℕ, ◌++◌, ◌∙◌, ◌∷◌, ◌≡◌}
+use Rattle.actor_core.proofs.AgreementNames.{All-append, All-cons, All-head, All-nil, All-tail, Bool, CoreView, IsJobOut, JobId, JobOut, Journal, Line, Marks, None, Option, Parks, QueuesView, Some, [], ap, awake, false, held_count, is_some, map}
+use Rattle.actor_core.proofs.AgreementNames.{parked_of, refl, same_Some, subst, sym, true, waiting_of, ℕ, ◌++◌, ◌∙◌, ◌∷◌, ◌≡◌}
 use Rattle.actor_core.specs.Steps.{out_told}
 use Rattle.core_core.specs.Closing as core_says
 use Rattle.core_queues.specs.Waking.{KeepsWake, WakesParked}

@@ -1,22 +1,12 @@
 -- A core that agrees with a journal in which each note may stand: what follows for a note that changes nothing of the core, and for modes and gates.
-use Rattle.actor_core.proofs.AgreementNames.{Line, add-zero, brings_work, is_wake_kept, marks_told, name_parked, name_parking, names_parked}
-use Rattle.actor_core.proofs.AgreementNames.{nat_lt, parked, parked-stays, parked_of, slice_index_or, still_parked, unparked, unwrap_or}
-use Rattle.actor_core.proofs.AgreementNames.{is_name, is_some, reason_if_returning, return_reason, return_reason_of, stays, stays_in_line}
-use Rattle.actor_core.proofs.AgreementNames.{wake_told}
+use Rattle.actor_core.proofs.AgreementNames.{Line, add-zero, brings_work, is_wake_kept, marks_told, name_parked, name_parking, names_parked, nat_lt, parked, parked-stays, parked_of, slice_index_or, still_parked, unparked, unwrap_or, is_name}
+use Rattle.actor_core.proofs.AgreementNames.{is_some, reason_if_returning, return_reason, return_reason_of, stays, stays_in_line, wake_told, CoreView, JobOut, is_any, is_working, tally_of, Tally, queue_out-alone, queue_out-nobody, line-stays}
+use Rattle.actor_core.proofs.AgreementNames.{floor-stays, virtual_runtime-stays, has_work-line, core_mode, core_mode_told, count_told, final_count, mode_told, queue_mode, IsOpening, created_count, refusal, delivered_names, name_started, or_else}
+use Rattle.actor_core.proofs.AgreementNames.{name_joining, name_leaving, name_polled, name_settled, queue_out, is_number, pick_count, turns, charge_noted, runtime_picked, shares, has_work, number_if, queue_entered, Created, Mode, Agrees}
+use Rattle.actor_core.proofs.AgreementNames.{AgreesOnClosing, AreMarked, IsJobOut, IsKept, names_of, figures_in, figures_noted, no_figures, Bool, EachNote, IsEffectDue, JobId, Journal, List, MayFollow, MayStand, MayWrite, None, Note, Option, Some}
+use Rattle.actor_core.proofs.AgreementNames.{Terms, [], ap, arith, effect_awaited, false, is_told, length, queue_just_picked, refl, subst, sym, takes_turn, ℕ, ◌+◌, ◌<◌, ◌||◌, ◌∙◌, ◌∷◌, ◌≡◌, ◌≤◌, QueuesView, mode_of, queue_count, parts_turns}
+use Rattle.actor_core.proofs.AgreementNames.{shares_of, waiting_of}
 use Rattle.base_words.specs.declared.order.Reason.TheVariants as why
-use Rattle.actor_core.proofs.AgreementNames.{CoreView, JobOut, is_any, is_working, tally_of, Tally, queue_out-alone}
-use Rattle.actor_core.proofs.AgreementNames.{queue_out-nobody, line-stays, floor-stays, virtual_runtime-stays, has_work-line}
-use Rattle.actor_core.proofs.AgreementNames.{core_mode, core_mode_told, count_told, final_count, mode_told, queue_mode}
-use Rattle.actor_core.proofs.AgreementNames.{IsOpening, created_count, refusal, delivered_names, name_started, or_else}
-use Rattle.actor_core.proofs.AgreementNames.{name_joining, name_leaving, name_polled, name_settled, queue_out, is_number}
-use Rattle.actor_core.proofs.AgreementNames.{pick_count, turns, charge_noted, runtime_picked, shares, has_work, number_if}
-use Rattle.actor_core.proofs.AgreementNames.{queue_entered, Created, Mode, Agrees, AgreesOnClosing, AreMarked}
-use Rattle.actor_core.proofs.AgreementNames.{IsJobOut, IsKept, names_of, figures_in, figures_noted, no_figures, Bool}
-use Rattle.actor_core.proofs.AgreementNames.{EachNote, IsEffectDue, JobId, Journal, List, MayFollow, MayStand, MayWrite}
-use Rattle.actor_core.proofs.AgreementNames.{None, Note, Option, Some, Terms, [], ap, arith, effect_awaited, false, is_told}
-use Rattle.actor_core.proofs.AgreementNames.{length, queue_just_picked, refl, subst, sym, takes_turn, ℕ, ◌+◌, ◌<◌}
-use Rattle.actor_core.proofs.AgreementNames.{◌||◌, ◌∙◌, ◌∷◌, ◌≡◌, ◌≤◌, QueuesView, mode_of, queue_count}
-use Rattle.actor_core.proofs.AgreementNames.{parts_turns, shares_of, waiting_of}
 use Rattle.core_core.specs.State as state
 use Rattle.core_core.specs.Closing as core_says
 use Rattle.actor_core.proofs.Marks.{marks-stay}

@@ -1,6 +1,5 @@
 -- A core among ends that stay as they are: it hands a job back, or ends its turn.
-use Rattle.actor_core.proofs.TurnWords.{◌≡◌, ℕ, ◌≤◌, sym, ◌∙◌, ap, subst, Option, None, Ok, Result, slice_get}
-use Rattle.actor_core.proofs.TurnWords.{JobId, OutcomeNote, Order, Meaning, RecordedView, LeavesOwed, order_taken, Reach, AreAround, none_owed}
+use Rattle.actor_core.proofs.TurnWords.{◌≡◌, ℕ, ◌≤◌, sym, ◌∙◌, ap, subst, Option, None, Ok, Result, slice_get, JobId, OutcomeNote, Order, Meaning, RecordedView, LeavesOwed, order_taken, Reach, AreAround, none_owed}
 use Rattle.base_words.specs.declared.order.Reason.{Reason}
 use Rattle.base_words.specs.Bursts.{has_bursts, queue_in_turn}
 use Rattle.core_core.specs.declared.turn.PickError.{PickError}

@@ -1,11 +1,8 @@
 -- What a core tells of itself stays what its journal says, as a queue or the core is closed: in mode `Return` all parks that it has end.
-use Rattle.actor_core.proofs.AgreementNames.{Agrees, All-append, AreMarked, Bool, CoreView, EachNote, HasClosed, IsJobOut, JobId, JobOut}
-use Rattle.actor_core.proofs.AgreementNames.{Journal, List, MayStand, Mode, None, Note, Option, Parks, Some, Terms, [], among, ap, append-nil}
-use Rattle.actor_core.proofs.AgreementNames.{arith, awake, brings_work, cond, core_mode, entry_runtime, false, final_count}
-use Rattle.actor_core.proofs.AgreementNames.{figures_in, figures_of, is_any, is_number, is_return, keeps_wakes, length, line, map}
-use Rattle.actor_core.proofs.AgreementNames.{map-append, marks_told, mode_of, names_of, names_parked, nat_lt, or_else, parked, parked_of}
-use Rattle.actor_core.proofs.AgreementNames.{queue_count, queue_mode, refl, shares_of, runtime_of, started_of, subst, sym, tally_of, true, true≢false, virtual_runtime}
-use Rattle.actor_core.proofs.AgreementNames.{waiting_of, with_all, with_all-append, ℕ, ◌&&◌, ◌++◌, ◌==◌, ◌||◌, ◌∙◌, ◌∷◌, ◌≡◌}
+use Rattle.actor_core.proofs.AgreementNames.{Agrees, All-append, AreMarked, Bool, CoreView, EachNote, HasClosed, IsJobOut, JobId, JobOut, Journal, List, MayStand, Mode, None, Note, Option, Parks, Some, Terms, [], among, ap, append-nil, arith, awake}
+use Rattle.actor_core.proofs.AgreementNames.{brings_work, cond, core_mode, entry_runtime, false, final_count, figures_in, figures_of, is_any, is_number, is_return, keeps_wakes, length, line, map, map-append, marks_told, mode_of, names_of}
+use Rattle.actor_core.proofs.AgreementNames.{names_parked, nat_lt, or_else, parked, parked_of, queue_count, queue_mode, refl, shares_of, runtime_of, started_of, subst, sym, tally_of, true, true≢false, virtual_runtime, waiting_of, with_all}
+use Rattle.actor_core.proofs.AgreementNames.{with_all-append, ℕ, ◌&&◌, ◌++◌, ◌==◌, ◌||◌, ◌∙◌, ◌∷◌, ◌≡◌}
 use Rattle.base_words.specs.Charge.{placed}
 use Rattle.base_words.specs.declared.note.Note.TheVariants as writes
 use Rattle.base_words.specs.declared.order.Mode.TheVariants.{Finish, Return}

@@ -1,27 +1,16 @@
 -- What a core tells of itself stays what its journal says, as a submission is delivered: a job enters or goes back, a command is answered, creates, weighs or closes; and as a gate is shut.
-use Rattle.actor_core.proofs.AgreementNames.{Marks, get_or-set_other, is_wake_kept, keeps_wakes, length-set, le-leb, lt-leb}
-use Rattle.actor_core.proofs.AgreementNames.{marks_told, names_parked, nat_le, slice_index_or}
-use Rattle.actor_core.proofs.AgreementNames.{slice_set, CountsAlone, Creates, Weighs, counted, CoreView, JobOut}
-use Rattle.actor_core.proofs.AgreementNames.{entry_runtime, is_working, no_tally, runtime_of, tally_of, Tally, known_of}
-use Rattle.actor_core.proofs.AgreementNames.{not_old, line-took, line-took_elsewhere, floor-stays, shares-created}
-use Rattle.actor_core.proofs.AgreementNames.{shares-created_elsewhere, shares-set, shares-set_elsewhere}
-use Rattle.actor_core.proofs.AgreementNames.{virtual_runtime-took_busy, virtual_runtime-took_elsewhere}
-use Rattle.actor_core.proofs.AgreementNames.{virtual_runtime-took_idle, started_of, final_count, IsAnswer}
-use Rattle.actor_core.proofs.AgreementNames.{created_count, has_effect, queue_created, refusal, delivered_names, if_from}
-use Rattle.actor_core.proofs.AgreementNames.{name_started, list_told, or_else, IsNextDelivered, shares, virtual_runtime}
-use Rattle.actor_core.proofs.AgreementNames.{has_work, queue_of, Answer, Reason, Agrees, IsJobOut, IsKept, names_of}
-use Rattle.actor_core.proofs.AgreementNames.{EachNote, JobId, Journal, List, MayStand, None, Note, Option, Order, Some}
-use Rattle.actor_core.proofs.AgreementNames.{Terms, [], ap, arith, cond, effect_awaited, false, false_from_ne_true, get_or}
-use Rattle.actor_core.proofs.AgreementNames.{get_or-set_same, inr, is_some, is_told, length, length-append, map-append}
-use Rattle.actor_core.proofs.AgreementNames.{queue_just_picked, refl, same_as_itself, same_name, set, subst, sym, true}
-use Rattle.actor_core.proofs.AgreementNames.{true≢false, with_last, ℕ, ◌++◌, ◌+◌, ◌<◌, ◌==◌, ◌∙◌, ◌∷◌, ◌≡◌, ◌≤◌}
-use Rattle.actor_core.proofs.AgreementNames.{InRange, ChangesLine, QueuesView, line, queue_count, shares_of, waiting_of}
+use Rattle.actor_core.proofs.AgreementNames.{Marks, get_or-set_other, is_wake_kept, keeps_wakes, length-set, le-leb, lt-leb, marks_told, names_parked, nat_le, slice_index_or, slice_set, CountsAlone, Creates, Weighs, counted, CoreView, JobOut}
+use Rattle.actor_core.proofs.AgreementNames.{entry_runtime, is_working, no_tally, runtime_of, tally_of, Tally, known_of, not_old, line-took, line-took_elsewhere, floor-stays, shares-created, shares-created_elsewhere, shares-set}
+use Rattle.actor_core.proofs.AgreementNames.{shares-set_elsewhere, virtual_runtime-took_busy, virtual_runtime-took_elsewhere, virtual_runtime-took_idle, started_of, final_count, IsAnswer, created_count, has_effect, queue_created, refusal}
+use Rattle.actor_core.proofs.AgreementNames.{delivered_names, if_from, name_started, list_told, or_else, IsNextDelivered, shares, virtual_runtime, has_work, queue_of, Answer, Reason, Agrees, IsJobOut, IsKept, names_of, EachNote, JobId, Journal}
+use Rattle.actor_core.proofs.AgreementNames.{List, MayStand, None, Note, Option, Order, Some, Terms, [], ap, arith, cond, effect_awaited, false, false_from_ne_true, get_or, get_or-set_same, inr, is_some, is_told, length, length-append, map-append}
+use Rattle.actor_core.proofs.AgreementNames.{queue_just_picked, refl, same_as_itself, same_name, set, subst, sym, true, true≢false, with_last, ℕ, ◌++◌, ◌+◌, ◌<◌, ◌==◌, ◌∙◌, ◌∷◌, ◌≡◌, ◌≤◌, InRange, ChangesLine, QueuesView, line, queue_count}
+use Rattle.actor_core.proofs.AgreementNames.{shares_of, waiting_of}
 use Rattle.base_words.specs.declared.note.Note.TheVariants as writes
 use Rattle.base_words.specs.declared.order.Order.TheVariants as orders
 use Rattle.base_words.specs.declared.order.Answer.TheVariants as answers
 use Rattle.actor_core.proofs.Figures.{figures-same, figures-stays}
-use Rattle.actor_core.proofs.Kept.{IsCalm, IsOpenNote, agrees_steady, agrees_unmoved, closing-stays, kept_after}
-use Rattle.actor_core.proofs.Kept.{stands_behind, turns-stays, working}
+use Rattle.actor_core.proofs.Kept.{IsCalm, IsOpenNote, agrees_steady, agrees_unmoved, closing-stays, kept_after, stands_behind, turns-stays, working}
 use Rattle.actor_core.proofs.KeptParks.{entering}
 use Rattle.actor_core.proofs.Marks.{marks_longer, unmarked}
 use Rattle.actor_core.proofs.Turning.{open-stays}

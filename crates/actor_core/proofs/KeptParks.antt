@@ -1,18 +1,11 @@
 -- What a core tells of itself stays what its journal says, as a job is woken: its wake is kept, or its park ends.
-use Rattle.actor_core.proofs.AgreementNames.{Agrees, AgreesOnClosing, All-append, All-cons, All-head, All-nil, All-tail, AreMarked, Bool, CoreView}
-use Rattle.actor_core.proofs.AgreementNames.{Distinct, EachNote, IsInside, IsJobOut, JobId, JobOut, Journal, Known, Line, List, Marks, MayStand, Moves, Sleeps}
-use Rattle.actor_core.proofs.AgreementNames.{Mode, None, Note, Option, QueuesView, Some, Tally, Terms, [], add-zero, alone_out, among, ap}
-use Rattle.actor_core.proofs.AgreementNames.{apart_of, arith, awake, brings_work, charge_noted, cond, created_count, delivered_names}
-use Rattle.actor_core.proofs.AgreementNames.{entry_runtime, false, false_from_ne_true, get_or-set_other, get_or-set_same, figures_noted, figures_of, floor-stays, has_work}
-use Rattle.actor_core.proofs.AgreementNames.{is_inside, is_parked, is_parked_in, is_told, is_wake_kept, is_wake_kept-elsewhere}
-use Rattle.actor_core.proofs.AgreementNames.{is_wake_kept-ended, is_wake_kept-woken, is_working, jobs_out, keeps_wakes, known_of, length}
-use Rattle.actor_core.proofs.AgreementNames.{length-set, line, line-woken, line_not_parked, map-append, marks_told, max, mode_of, name_polled}
-use Rattle.actor_core.proofs.AgreementNames.{name_settled, name_started, names_but, names_like-none, names_like-one, names_of, name_ended, no_tally, not, names_parked, nat_lt, no_figures}
-use Rattle.actor_core.proofs.AgreementNames.{one_name, parked, parked_of, pick_count, queue_count, queue_entered, queue_of, refl, runtime_of}
-use Rattle.actor_core.proofs.AgreementNames.{and_parts, parts_turns, entered_somewhere, is_name, is_some, ⊎_elim, ◌||◌}
-use Rattle.actor_core.proofs.AgreementNames.{runtime_picked, same_Some, same_name, set, shares, shares_of, started_of, subst, sym, tally_of}
-use Rattle.actor_core.proofs.AgreementNames.{true, true≢false, virtual_runtime, virtual_runtime-brought, virtual_runtime-busy}
-use Rattle.actor_core.proofs.AgreementNames.{virtual_runtime-stays, waiting_of, woken_elsewhere, ℕ, ◌&&◌, ◌++◌, ◌+◌, ◌<◌, ◌∙◌, ◌∷◌, ◌≡◌}
+use Rattle.actor_core.proofs.AgreementNames.{Agrees, AgreesOnClosing, All-append, All-cons, All-head, All-nil, All-tail, AreMarked, Bool, CoreView, Distinct, EachNote, IsInside, IsJobOut, JobId, JobOut, Journal, Known, Line, List, Marks, MayStand}
+use Rattle.actor_core.proofs.AgreementNames.{Moves, Sleeps, Mode, None, Note, Option, QueuesView, Some, Tally, Terms, [], add-zero, alone_out, among, ap, apart_of, arith, awake, brings_work, charge_noted, cond, created_count, delivered_names}
+use Rattle.actor_core.proofs.AgreementNames.{entry_runtime, false, false_from_ne_true, get_or-set_other, get_or-set_same, figures_noted, figures_of, floor-stays, has_work, is_inside, is_parked, is_parked_in, is_told, is_wake_kept}
+use Rattle.actor_core.proofs.AgreementNames.{is_wake_kept-elsewhere, is_wake_kept-ended, is_wake_kept-woken, is_working, jobs_out, keeps_wakes, known_of, length, length-set, line, line-woken, line_not_parked, map-append, marks_told, max, mode_of}
+use Rattle.actor_core.proofs.AgreementNames.{name_polled, name_settled, name_started, names_but, names_like-none, names_like-one, names_of, name_ended, no_tally, not, names_parked, nat_lt, no_figures, one_name, parked, parked_of, pick_count}
+use Rattle.actor_core.proofs.AgreementNames.{queue_count, queue_entered, queue_of, refl, runtime_of, and_parts, parts_turns, entered_somewhere, is_name, is_some, ⊎_elim, ◌||◌, runtime_picked, same_Some, same_name, set, shares, shares_of, started_of}
+use Rattle.actor_core.proofs.AgreementNames.{subst, sym, tally_of, true, true≢false, virtual_runtime, virtual_runtime-brought, virtual_runtime-busy, virtual_runtime-stays, waiting_of, woken_elsewhere, ℕ, ◌&&◌, ◌++◌, ◌+◌, ◌<◌, ◌∙◌, ◌∷◌, ◌≡◌}
 use Rattle.base_words.specs.declared.note.Note.TheVariants as writes
 use Rattle.core_core.specs.Waking.{EndsPark, IsAbsent, KeepsLineWake, KeepsOutWake, name_out}
 use Rattle.core_queues.specs.Waking.{KeepsWake, WakesParked}

@@ -1,22 +1,8 @@
 -- What a core tells of itself stays what its journal says, as a pick takes a job out or hands it back; the pick is right, and its notes may stand.
-use Rattle.actor_core.proofs.AgreementNames.{Marks, names_parked, parked-stays}
-use Rattle.actor_core.proofs.AgreementNames.{with_all}
-use Rattle.actor_core.proofs.AgreementNames.{length-set}
-use Rattle.actor_core.proofs.AgreementNames.{none-some, max, CoreView, JobOut, runtime_of}
-use Rattle.actor_core.proofs.AgreementNames.{tally_of, IsNext, Tally, jobs_out-resume, jobs_out-start}
-use Rattle.actor_core.proofs.AgreementNames.{floor-stays}
-use Rattle.actor_core.proofs.AgreementNames.{virtual_runtime-stays, right_pick_of_lines}
-use Rattle.actor_core.proofs.AgreementNames.{return_reason, name_started, KeyAtMost, IsTurnOf}
-use Rattle.actor_core.proofs.AgreementNames.{most_turns, names_but_for, IsRightPick}
-use Rattle.actor_core.proofs.AgreementNames.{turns, virtual_runtime, Reason, Agrees}
-use Rattle.actor_core.proofs.AgreementNames.{AreMarked, IsJobOut, IsKept, names_of, Figures, figures_in, figures_of}
-use Rattle.actor_core.proofs.AgreementNames.{figures_told, poll_note, Bool, JobId, Journal, List, MayStand, None, Note}
-use Rattle.actor_core.proofs.AgreementNames.{Option, Some, Terms, ap, arith, cond, false}
-use Rattle.actor_core.proofs.AgreementNames.{is_told, length, refl}
-use Rattle.actor_core.proofs.AgreementNames.{set, subst, sym, true, with_last, ℕ, ◌+◌}
-use Rattle.actor_core.proofs.AgreementNames.{◌<◌, ◌==◌, ◌∙◌, ◌∷◌, ◌≡◌, QueuesView}
-use Rattle.actor_core.proofs.AgreementNames.{Bursts, IsOpenTurn, begun, has_bursts, inl, is_some, none_either, not, queue_in_turn}
-use Rattle.actor_core.proofs.AgreementNames.{[], line, queue_count, waiting_of}
+use Rattle.actor_core.proofs.AgreementNames.{Marks, names_parked, parked-stays, with_all, length-set, none-some, max, CoreView, JobOut, runtime_of, tally_of, IsNext, Tally, jobs_out-resume, jobs_out-start, floor-stays, virtual_runtime-stays}
+use Rattle.actor_core.proofs.AgreementNames.{right_pick_of_lines, return_reason, name_started, KeyAtMost, IsTurnOf, most_turns, names_but_for, IsRightPick, turns, virtual_runtime, Reason, Agrees, AreMarked, IsJobOut, IsKept, names_of, Figures}
+use Rattle.actor_core.proofs.AgreementNames.{figures_in, figures_of, figures_told, poll_note, Bool, JobId, Journal, List, MayStand, None, Note, Option, Some, Terms, ap, arith, cond, false, is_told, length, refl, set, subst, sym, true, with_last, ℕ}
+use Rattle.actor_core.proofs.AgreementNames.{◌+◌, ◌<◌, ◌==◌, ◌∙◌, ◌∷◌, ◌≡◌, QueuesView, Bursts, IsOpenTurn, begun, has_bursts, inl, is_some, none_either, not, queue_in_turn, [], line, queue_count, waiting_of}
 use Rattle.base_words.specs.declared.note.Note.TheVariants as writes
 use Rattle.core_core.specs.Closing as core
 use Rattle.actor_core.proofs.Figures.{figures-grow, one_pick, one_return, set_runtime, told-polled, told-returned}

@@ -1,21 +1,11 @@
 -- What a core tells of itself stays what its journal says, as a poll is settled: the job yields, is parked or stays, or is done.
-use Rattle.actor_core.proofs.AgreementNames.{ChangesParks, Marks, MayFollow, alone_out, among, awake, false, false_from_ne_true, is_told}
-use Rattle.actor_core.proofs.AgreementNames.{is_wake_kept, is_wake_kept-stayed, is_wake_kept-stayed_elsewhere, jobs_out-park, jobs_out-stayed}
-use Rattle.actor_core.proofs.AgreementNames.{known_of, line-stayed, line-stayed_elsewhere, marks_told, name_started, names_parked, parked}
-use Rattle.actor_core.proofs.AgreementNames.{parked-park, parked-park_elsewhere, parked_of, same_name, stays, virtual_runtime-park}
-use Rattle.actor_core.proofs.AgreementNames.{virtual_runtime-park_elsewhere, virtual_runtime-stayed, virtual_runtime-stayed_elsewhere}
-use Rattle.actor_core.proofs.AgreementNames.{get_or-set_other, length-set, none-some, CoreView, JobOut, runtime_of, tally_of}
-use Rattle.actor_core.proofs.AgreementNames.{settled_view, Tally, jobs_out-done, jobs_out-yield, line-done, line-yield}
-use Rattle.actor_core.proofs.AgreementNames.{line-yield_elsewhere, floor-stays, virtual_runtime-done}
-use Rattle.actor_core.proofs.AgreementNames.{virtual_runtime-done_elsewhere, virtual_runtime-yield}
-use Rattle.actor_core.proofs.AgreementNames.{virtual_runtime-yield_elsewhere, is_told-alone, jobs_out, shares}
-use Rattle.actor_core.proofs.AgreementNames.{virtual_runtime, queue_of, Agrees, AreMarked, IsJobOut, IsKept, names_of}
-use Rattle.actor_core.proofs.AgreementNames.{figures_told, JobId, Journal, None, Note, Some, Terms, [], ap, arith}
-use Rattle.actor_core.proofs.AgreementNames.{cond, get_or-set_same, length, map-append, refl, subst, sym, true, ℕ, ◌++◌, ◌+◌}
-use Rattle.actor_core.proofs.AgreementNames.{◌<◌, ◌==◌, ◌∙◌, ◌∷◌, ◌≡◌, ◌≤◌, charge, clamped, ChangesLine, QueuesView}
-use Rattle.actor_core.proofs.AgreementNames.{mode_of, line, queue_count, shares_of, waiting_of}
-use Rattle.actor_core.proofs.AgreementNames.{Bool, IsOpenTurn, OpenTurn, Option, add-zero, added_now, brings_work, figures_in, figures_of, has_bursts, name_polled, no_tally}
-use Rattle.actor_core.proofs.AgreementNames.{open_if_begun, parts_turns, poll_settled, queue_begun_last, settled_tally, turn_of_out, turn_told, virtual_runtime-in_turn}
+use Rattle.actor_core.proofs.AgreementNames.{ChangesParks, Marks, MayFollow, alone_out, among, awake, false, false_from_ne_true, is_told, is_wake_kept, is_wake_kept-stayed, is_wake_kept-stayed_elsewhere, jobs_out-park, jobs_out-stayed, known_of}
+use Rattle.actor_core.proofs.AgreementNames.{line-stayed, line-stayed_elsewhere, marks_told, name_started, names_parked, parked, parked-park, parked-park_elsewhere, parked_of, same_name, stays, virtual_runtime-park, virtual_runtime-park_elsewhere}
+use Rattle.actor_core.proofs.AgreementNames.{virtual_runtime-stayed, virtual_runtime-stayed_elsewhere, get_or-set_other, length-set, none-some, CoreView, JobOut, runtime_of, tally_of, settled_view, Tally, jobs_out-done, jobs_out-yield, line-done}
+use Rattle.actor_core.proofs.AgreementNames.{line-yield, line-yield_elsewhere, floor-stays, virtual_runtime-done, virtual_runtime-done_elsewhere, virtual_runtime-yield, virtual_runtime-yield_elsewhere, is_told-alone, jobs_out, shares}
+use Rattle.actor_core.proofs.AgreementNames.{virtual_runtime, queue_of, Agrees, AreMarked, IsJobOut, IsKept, names_of, figures_told, JobId, Journal, None, Note, Some, Terms, [], ap, arith, cond, get_or-set_same, length, map-append, refl, subst, sym}
+use Rattle.actor_core.proofs.AgreementNames.{true, ℕ, ◌++◌, ◌+◌, ◌<◌, ◌==◌, ◌∙◌, ◌∷◌, ◌≡◌, ◌≤◌, charge, clamped, ChangesLine, QueuesView, mode_of, line, queue_count, shares_of, waiting_of, Bool, IsOpenTurn, OpenTurn, Option, add-zero, added_now}
+use Rattle.actor_core.proofs.AgreementNames.{brings_work, figures_in, figures_of, has_bursts, name_polled, no_tally, open_if_begun, parts_turns, poll_settled, queue_begun_last, settled_tally, turn_of_out, turn_told, virtual_runtime-in_turn}
 use Rattle.core_core.specs.State as state
 use Rattle.base_words.specs.declared.note.Note.TheVariants as writes
 use Rattle.actor_core.proofs.Places.{everywhere}

@@ -1,11 +1,9 @@
 -- What a core tells of itself stays what its journal says, as a further job of the open turn goes out, and as the turn ends; the turn may go on in the core where it may in the journal.
-use Rattle.actor_core.proofs.AgreementNames.{Agrees, AreMarked, Bool, CoreView, EachNote, IsJobOut, IsKept, IsOpenTurn, IsTurnOf, JobId, Journal}
-use Rattle.actor_core.proofs.AgreementNames.{Marks, MayStand, None, Note, OpenTurn, Option, QueuesView, Reason, Some, Tally, Terms, [], ap, arith, begun_if_open, charge, clamped, cond}
-use Rattle.actor_core.proofs.AgreementNames.{created_count, false, figures_told, floor-stays, get_or-set_other, get_or-set_same, has_bursts, has_work, inr, is_any, is_number, is_some}
-use Rattle.actor_core.proofs.AgreementNames.{is_told, jobs_out, jobs_out-resume, jobs_out-start, length, length-set, line, line-stays, list_told, name_started, names_but_for, names_of, names_parked}
-use Rattle.actor_core.proofs.AgreementNames.{nat_lt, no_tally, not, or_else, parked-stays, poll_note, polled_again, polls_in_turn, queue_begun_last, queue_count, queue_created}
-use Rattle.actor_core.proofs.AgreementNames.{queue_in_turn, queue_just_picked, refl, return_reason, runtime_of, set, shares_of, subst, sym, tally_of, true, true≢false, virtual_runtime}
-use Rattle.actor_core.proofs.AgreementNames.{virtual_runtime-stays, virtual_runtime-turned, virtual_runtime-turned_elsewhere, waiting_of, with_all, with_last, ℕ, ◌&&◌, ◌+◌, ◌<◌, ◌||◌, ◌∙◌, ◌∷◌, ◌≡◌, ◌≤◌}
+use Rattle.actor_core.proofs.AgreementNames.{Agrees, AreMarked, Bool, CoreView, EachNote, IsJobOut, IsKept, IsOpenTurn, IsTurnOf, JobId, Journal, Marks, MayStand, None, Note, OpenTurn, Option, QueuesView, Reason, Some, Tally, Terms, [], ap, arith}
+use Rattle.actor_core.proofs.AgreementNames.{begun_if_open, charge, clamped, cond, created_count, false, figures_told, floor-stays, get_or-set_other, get_or-set_same, has_bursts, has_work, inr, is_any, is_number, is_some, is_told, jobs_out}
+use Rattle.actor_core.proofs.AgreementNames.{jobs_out-resume, jobs_out-start, length, length-set, line, line-stays, list_told, name_started, names_but_for, names_of, names_parked, nat_lt, no_tally, not, or_else, parked-stays, poll_note}
+use Rattle.actor_core.proofs.AgreementNames.{polled_again, polls_in_turn, queue_begun_last, queue_count, queue_created, queue_in_turn, queue_just_picked, refl, return_reason, runtime_of, set, shares_of, subst, sym, tally_of, true, true≢false}
+use Rattle.actor_core.proofs.AgreementNames.{virtual_runtime, virtual_runtime-stays, virtual_runtime-turned, virtual_runtime-turned_elsewhere, waiting_of, with_all, with_last, ℕ, ◌&&◌, ◌+◌, ◌<◌, ◌||◌, ◌∙◌, ◌∷◌, ◌≡◌, ◌≤◌}
 use Rattle.std.proofs.lemmas.Bool.{ltb-true}
 use Rattle.base_words.specs.declared.note.Note.TheVariants as writes
 use Rattle.base_words.specs.Lawful.{GoesOn, IsTurnEnd, may_go_on}

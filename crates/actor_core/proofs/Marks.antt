@@ -1,9 +1,6 @@
 -- The marks of jobs that wait: a note changes those of the job that it tells of.
-use Rattle.actor_core.proofs.AgreementNames.{All-append, All-cons, All-head, All-nil, All-tail, AreMarked, ChangesLine, Distinct}
-use Rattle.actor_core.proofs.AgreementNames.{JobId, Journal, Line, List, Marks, Note, Parks, QueuesView, [], among, ap, arith, awake}
-use Rattle.actor_core.proofs.AgreementNames.{false, false_from_ne_true, get_or, length, map, marks_told, names_but, names_but-first, names_of}
-use Rattle.actor_core.proofs.AgreementNames.{names_parked, one_name, refl, same_as_itself, same_name, subst, sym, true}
-use Rattle.actor_core.proofs.AgreementNames.{true≢false, waiting_of, ℕ, ◌++◌, ◌<◌, ◌∙◌, ◌∷◌, ◌≡◌}
+use Rattle.actor_core.proofs.AgreementNames.{All-append, All-cons, All-head, All-nil, All-tail, AreMarked, ChangesLine, Distinct, JobId, Journal, Line, List, Marks, Note, Parks, QueuesView, [], among, ap, arith, awake, false, false_from_ne_true}
+use Rattle.actor_core.proofs.AgreementNames.{get_or, length, map, marks_told, names_but, names_but-first, names_of, names_parked, one_name, refl, same_as_itself, same_name, subst, sym, true, true≢false, waiting_of, ℕ, ◌++◌, ◌<◌, ◌∙◌, ◌∷◌, ◌≡◌}
 use Rattle.actor_core.proofs.Places.{each_line}
 use Rattle.std.proofs.lemmas.Bool.{or_right}
 

@@ -1,15 +1,8 @@
 -- The notes with which a poll begins, and the room that they leave.
-use Rattle.actor_core.proofs.Names.{Ok, slice_get, ◌≡◌, refl, ℕ, ◌+◌, ◌<◌, Bool, true, false, List, length, reverse}
-use Rattle.actor_core.proofs.Names.{sym, ◌∙◌, ap, subst, arith, most_turns, JobId, Note, Envelope, Order, Outcome}
-use Rattle.actor_core.proofs.Names.{turns, Step, Meaning, Start, Resume, CoreView, IsAhead, goes_out, pick_notes}
-use Rattle.actor_core.proofs.Names.{settle_notes, ahead_picks, Outward, DeskView, desk_with}
-use Rattle.actor_core.proofs.Names.{RecordedView, IsRecorded, desk_of, AreOutsOf, IsPick, StaysPut}
-use Rattle.actor_core.proofs.Names.{◌≤◌}
-use Rattle.actor_core.proofs.Names.{CorePicks}
-use Rattle.actor_core.proofs.Names.{IsFurther, Some}
+use Rattle.actor_core.proofs.Names.{Ok, slice_get, ◌≡◌, refl, ℕ, ◌+◌, ◌<◌, Bool, true, false, List, length, reverse, sym, ◌∙◌, ap, subst, arith, most_turns, JobId, Note, Envelope, Order, Outcome, turns, Step, Meaning, Start, Resume, CoreView}
+use Rattle.actor_core.proofs.Names.{IsAhead, goes_out, pick_notes, settle_notes, ahead_picks, Outward, DeskView, desk_with, RecordedView, IsRecorded, desk_of, AreOutsOf, IsPick, StaysPut, ◌≤◌, CorePicks, IsFurther, Some}
 use Rattle.core_core.proofs.AheadTaken.{ahead_follows}
-use Rattle.core_core.specs.Further.{IsAheadInTurn, follow_notes}
-use Rattle.core_core.specs.Further.{Follows as CoreFollows}
+use Rattle.core_core.specs.Further.{IsAheadInTurn, follow_notes, Follows as CoreFollows}
 use Rattle.actor_core.proofs.Ahead.{picked_did}
 use Rattle.actor_core.proofs.Followed.{followed_did}
 use Rattle.actor_core.proofs.QuietSteps.{nobody, everyone, HasDone, view_of, quiet_invariant, quiet_now}

@@ -1,7 +1,5 @@
 -- A poll begins at one place before the note that settles it: what stands between was posted by its calls, and what stands before was there before.
-use Rattle.actor_core.proofs.Names.{◌≡◌, ℕ, ◌+◌, Bool, true, false, List, [], ◌∷◌, ◌++◌, Option, refl, sym, subst}
-use Rattle.actor_core.proofs.Names.{JobId, Note, Journal, ArePosts, poll_note, polls_made, Step, Terms, Meaning, Call, IfDone, IfSome, Ok, Err}
-use Rattle.actor_core.proofs.Names.{Some, ◌⊎◌}
+use Rattle.actor_core.proofs.Names.{◌≡◌, ℕ, ◌+◌, Bool, true, false, List, [], ◌∷◌, ◌++◌, Option, refl, sym, subst, JobId, Note, Journal, ArePosts, poll_note, polls_made, Step, Terms, Meaning, Call, IfDone, IfSome, Ok, Err, Some, ◌⊎◌}
 use Rattle.base_words.specs.Bursts.{queue_just_picked}
 use Rattle.base_words.specs.Lawful.{GoesOn}
 use Rattle.base_words.specs.declared.note.Note.TheVariants as writes

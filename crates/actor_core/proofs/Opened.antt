@@ -1,8 +1,6 @@
 -- A core that was just opened, beside a journal without a note.
-use Rattle.actor_core.proofs.Names.{◌≡◌, ℕ, zero, suc, ◌+◌, ◌*◌, ◌<◌, [], refl, sym, ap, subst, arith, None, All}
-use Rattle.actor_core.proofs.Names.{length-replicate, get_or-replicate, All-nil, Meaning, waiting_of, mode_of, CoreView}
-use Rattle.actor_core.proofs.Names.{runtime_of, opened, Agrees, AreMarked, no_figures, figures_of, IsRecorded}
-use Rattle.actor_core.proofs.Names.{HasTask, sum_upto, given_count, opened_beside, none-some, names_of, names_parked, parked_of}
+use Rattle.actor_core.proofs.Names.{◌≡◌, ℕ, zero, suc, ◌+◌, ◌*◌, ◌<◌, [], refl, sym, ap, subst, arith, None, All, length-replicate, get_or-replicate, All-nil, Meaning, waiting_of, mode_of, CoreView, runtime_of, opened, Agrees, AreMarked, no_figures}
+use Rattle.actor_core.proofs.Names.{figures_of, IsRecorded, HasTask, sum_upto, given_count, opened_beside, none-some, names_of, names_parked, parked_of}
 use Rattle.actor_core.proofs.AgreementNames.{has_bursts, none_either}
 use Rattle.base_words.proofs.Tables.{all_alike}
 

@@ -1,8 +1,6 @@
 -- Each poll of a journal stays owed when notes are written that settle no poll, and when more is known.
-use Rattle.actor_core.proofs.Names.{◌≡◌, ℕ, ◌+◌, List, [], ◌∷◌, ◌++◌, Option, Some, None, none-some, refl, sym, ◌∙◌, ap}
-use Rattle.actor_core.proofs.Names.{add-zero, JobId, Note, Envelope, Order, Journal, Terms, Meaning, Step, Call}
-use Rattle.actor_core.proofs.Names.{name_settled, is_name, number_if, polls_made, AreCollected, order_taken, or_else, cond}
-use Rattle.actor_core.proofs.Names.{same_name}
+use Rattle.actor_core.proofs.Names.{◌≡◌, ℕ, ◌+◌, List, [], ◌∷◌, ◌++◌, Option, Some, None, none-some, refl, sym, ◌∙◌, ap, add-zero, JobId, Note, Envelope, Order, Journal, Terms, Meaning, Step, Call, name_settled, is_name, number_if, polls_made}
+use Rattle.actor_core.proofs.Names.{AreCollected, order_taken, or_else, cond, same_name}
 use Rattle.base_words.specs.declared.note.Note.TheVariants as writes
 use Rattle.base_words.specs.declared.order.SendError.TheVariants as refused
 use Rattle.base_words.specs.declared.names.TicketError.TheVariants as ticket

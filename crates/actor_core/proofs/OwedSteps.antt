@@ -1,9 +1,7 @@
 -- Each step of a core but its turn leaves each poll owed: it settles none.
-use Rattle.actor_core.proofs.Names.{◌≡◌, ℕ, Bool, true, false, List, [], ◌∷◌, ◌++◌, Option, Some, None, Result, Ok, Err, refl, sym, ◌∙◌, ap, subst}
-use Rattle.actor_core.proofs.Names.{JobId, Note, Envelope, Order, Outcome, Journal, Meaning, RecordedView, terms_at, desk_of, order_taken, IsSameSeat}
-use Rattle.actor_core.proofs.Names.{SendError, TicketError, Submits, RedeemsTicket, DetachesTicket, CollectsFrom, IsDelivery, Reason, Mode, Turn, PickError}
-use Rattle.actor_core.proofs.Names.{Receives, Delivers, CreatesQueue, TellsShut, ClosesItself, IsPick, IsHandBack, Picks, IsFurther, Follows, EndsTurn, Answer, poll_note, entry_note}
-use Rattle.actor_core.proofs.Names.{CreateError, Inward, DeskView}
+use Rattle.actor_core.proofs.Names.{◌≡◌, ℕ, Bool, true, false, List, [], ◌∷◌, ◌++◌, Option, Some, None, Result, Ok, Err, refl, sym, ◌∙◌, ap, subst, JobId, Note, Envelope, Order, Outcome, Journal, Meaning, RecordedView, terms_at, desk_of}
+use Rattle.actor_core.proofs.Names.{order_taken, IsSameSeat, SendError, TicketError, Submits, RedeemsTicket, DetachesTicket, CollectsFrom, IsDelivery, Reason, Mode, Turn, PickError, Receives, Delivers, CreatesQueue, TellsShut, ClosesItself, IsPick}
+use Rattle.actor_core.proofs.Names.{IsHandBack, Picks, IsFurther, Follows, EndsTurn, Answer, poll_note, entry_note, CreateError, Inward, DeskView}
 use Rattle.base_words.specs.declared.note.Note.TheVariants as writes
 use Rattle.base_words.specs.declared.order.Order.TheVariants as order
 use Rattle.base_words.specs.declared.order.Answer.TheVariants as answers

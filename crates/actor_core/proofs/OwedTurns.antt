@@ -1,10 +1,7 @@
 -- A whole turn, and a further poll in place, settles a poll that is owed: its calls wrote what stands before the note of the settling, and the ends answered as the notes say.
-use Rattle.actor_core.proofs.Names.{◌≡◌, ℕ, ◌+◌, ◌<◌, Bool, true, false, List, [], ◌∷◌, ◌++◌, length, Option, Some, None, Result, Ok, Err, refl, sym, ◌∙◌, ap}
-use Rattle.actor_core.proofs.Names.{subst, arith, inl, inr, JobId, Order, Outcome, Journal, terms_of_desk, terms_at, Meaning, Step, Call, Makes}
-use Rattle.actor_core.proofs.Names.{slice_get, slice_get_within, Outward, PostView, Does, DeskView, SendError, TicketError, Fits}
-use Rattle.actor_core.proofs.Names.{RecordedView, IsPostingTurn, post_of, Settled, JobOut, same_Some, unwrap_or, IfSome, settle_note, poll_note}
-use Rattle.actor_core.proofs.Names.{is_wake_kept, settled_of, stays_in_line}
-use Rattle.actor_core.proofs.Names.{polls_made, RedeemsTicket, DetachesTicket, order_taken, Job}
+use Rattle.actor_core.proofs.Names.{◌≡◌, ℕ, ◌+◌, ◌<◌, Bool, true, false, List, [], ◌∷◌, ◌++◌, length, Option, Some, None, Result, Ok, Err, refl, sym, ◌∙◌, ap, subst, arith, inl, inr, JobId, Order, Outcome, Journal, terms_of_desk, terms_at, Meaning}
+use Rattle.actor_core.proofs.Names.{Step, Call, Makes, slice_get, slice_get_within, Outward, PostView, Does, DeskView, SendError, TicketError, Fits, RecordedView, IsPostingTurn, post_of, Settled, JobOut, same_Some, unwrap_or, IfSome, settle_note}
+use Rattle.actor_core.proofs.Names.{poll_note, is_wake_kept, settled_of, stays_in_line, polls_made, RedeemsTicket, DetachesTicket, order_taken, Job}
 use Rattle.std.proofs.Common.{append_assoc, set, get_or-set_same}
 use Rattle.std.proofs.lemmas.List.{length-set}
 use Rattle.std.proofs.lemmas.Option.{slice_get-get_or}

@@ -1,6 +1,5 @@
 -- What holds at one place and at each other one.
-use Rattle.actor_core.proofs.AgreementNames.{ChangesLine, ChangesParks, Line, Parks, QueuesView, eqb_tells, inl, inr, parked_of, subst}
-use Rattle.actor_core.proofs.AgreementNames.{sym, waiting_of, ℕ, ◌≡◌}
+use Rattle.actor_core.proofs.AgreementNames.{ChangesLine, ChangesParks, Line, Parks, QueuesView, eqb_tells, inl, inr, parked_of, subst, sym, waiting_of, ℕ, ◌≡◌}
 
 -- it holds everywhere
 pub everywhere : (P : ℕ → Type 0) (place : ℕ) → P place → ((other : ℕ) → (other ≡ place → ⊥) → P other) → (other : ℕ) → P other

@@ -1,6 +1,5 @@
 -- Each of the small journals has a poll that isn't owed.
-use Rattle.actor_core.proofs.Names.{inl, ◌≡◌, ℕ, Bool, true, false, List, [], ◌∷◌, ◌++◌, length, Option, Some, Result, Ok, Err, refl, sym, ◌∙◌, ap, subst, arith}
-use Rattle.actor_core.proofs.Names.{JobId, Note, Journal, ArePosts, poll_note, Step, SendError, Job, IfSome}
+use Rattle.actor_core.proofs.Names.{inl, ◌≡◌, ℕ, Bool, true, false, List, [], ◌∷◌, ◌++◌, length, Option, Some, Result, Ok, Err, refl, sym, ◌∙◌, ap, subst, arith, JobId, Note, Journal, ArePosts, poll_note, Step, SendError, Job, IfSome}
 use Rattle.base_words.specs.declared.note.Note.TheVariants as writes
 use Rattle.base_words.specs.declared.order.Mode.TheVariants.{Return}
 use Rattle.base_words.specs.declared.order.Order.TheVariants.{CloseCore}

@@ -1,7 +1,6 @@
 -- A core among its ends, where a poll posted on those on which the core sends.
-use Rattle.actor_core.proofs.TurnWords.{◌≡◌, ℕ, ◌≤◌, Bool, List, refl, sym, subst, Option}
-use Rattle.actor_core.proofs.TurnWords.{JobId, OutcomeNote, Meaning, Settled, AreOutsOf, HasPosted, RecordedView, desk_of, IsSameSeat, LeavesOwed, outcome_settled, HasOwedPolls, seen_by, Begins, TurnsNoted, post_of, Fits}
-use Rattle.actor_core.proofs.TurnWords.{HaveSent, IsAround, Reach, Sides, AreAround, PollsAsOwed, none_owed, owed_under, PostsOne}
+use Rattle.actor_core.proofs.TurnWords.{◌≡◌, ℕ, ◌≤◌, Bool, List, refl, sym, subst, Option, JobId, OutcomeNote, Meaning, Settled, AreOutsOf, HasPosted, RecordedView, desk_of, IsSameSeat, LeavesOwed, outcome_settled, HasOwedPolls, seen_by, Begins}
+use Rattle.actor_core.proofs.TurnWords.{TurnsNoted, post_of, Fits, HaveSent, IsAround, Reach, Sides, AreAround, PollsAsOwed, none_owed, owed_under, PostsOne}
 use Rattle.actor_core.proofs.EndsKept.{sees_more_in}
 
 -- the ends on which the core sends, under the words of their own kind

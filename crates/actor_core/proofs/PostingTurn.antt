@@ -1,23 +1,14 @@
 -- A poll in place with posts, beside its journal: the notes of its beginning are written behind the old ones, then what is posted, then the note of the settling.
-use Rattle.actor_core.proofs.Names.{◌≡◌, refl, ℕ, ◌+◌, Bool, List, length, reverse}
-use Rattle.actor_core.proofs.Names.{sym, ◌∙◌, ap, subst, arith, JobId, Note, Envelope}
-use Rattle.actor_core.proofs.Names.{Step, Meaning, CoreView}
-use Rattle.actor_core.proofs.Names.{settle_notes, Outward, DeskView, IsWritten, terms_of_desk, desk_with}
-use Rattle.actor_core.proofs.Names.{RecordedView, IsRecorded, desk_of, LeavesOwed, AreOutsOf}
-use Rattle.actor_core.proofs.Names.{option_map, ◌*◌, ◌≤◌, same_Some, outcome_note, Call, Doing, Makes, IsMeaning}
-use Rattle.actor_core.proofs.Names.{JobOut, settled_of, IsSameSeat, told_under, OwesSettled}
-use Rattle.actor_core.proofs.Names.{is_wake_kept, stays_in_line}
-use Rattle.actor_core.proofs.Names.{outcome_settled, PostView, HasPosted, lends, Does, IsPolled, Settles, post_of}
-use Rattle.actor_core.proofs.Names.{Fits, IsPostingTurn, MayAnswer, TurnsNoted, posted_rest}
-use Rattle.actor_core.proofs.Names.{settle_note, unwrap_or, ◌∷◌, ◌++◌, length-append, AfterPoll, sum_by}
+use Rattle.actor_core.proofs.Names.{◌≡◌, refl, ℕ, ◌+◌, Bool, List, length, reverse, sym, ◌∙◌, ap, subst, arith, JobId, Note, Envelope, Step, Meaning, CoreView, settle_notes, Outward, DeskView, IsWritten, terms_of_desk, desk_with, RecordedView}
+use Rattle.actor_core.proofs.Names.{IsRecorded, desk_of, LeavesOwed, AreOutsOf, option_map, ◌*◌, ◌≤◌, same_Some, outcome_note, Call, Doing, Makes, IsMeaning, JobOut, settled_of, IsSameSeat, told_under, OwesSettled, is_wake_kept, stays_in_line}
+use Rattle.actor_core.proofs.Names.{outcome_settled, PostView, HasPosted, lends, Does, IsPolled, Settles, post_of, Fits, IsPostingTurn, MayAnswer, TurnsNoted, posted_rest, settle_note, unwrap_or, ◌∷◌, ◌++◌, length-append, AfterPoll, sum_by}
 use Rattle.core_core.specs.Settling.{SettlesOut}
 use Rattle.actor_desk.specs.Spending.{left_of}
 use Rattle.core_queues.specs.Fronts.{IsPolled as IsPolledIn}
 use Rattle.actor_core.specs.Whole.{Begins, LeavesTurn}
 use Rattle.actor_core.proofs.Beginnings.{IsBeginning, StandsInTurn, leaves_turn}
-use Rattle.actor_core.proofs.QuietSteps.{nobody, everyone, HasDone, view_of, quiet_invariant, quiet_now, given_settled}
+use Rattle.actor_core.proofs.QuietSteps.{nobody, everyone, HasDone, view_of, quiet_invariant, quiet_now, given_settled, HasStepped, quiet_noted}
 use Rattle.actor_core.specs.Carried.{MayNote}
-use Rattle.actor_core.proofs.QuietSteps.{HasStepped, quiet_noted}
 use Rattle.actor_core.proofs.SentNotes.{HasSaid, SaysNoMore, all_posted, has_said}
 use Rattle.actor_core.proofs.SettledPolls.{settled_did}
 use Rattle.actor_core.proofs.SettledEnds.{owes_settled, its_answer}

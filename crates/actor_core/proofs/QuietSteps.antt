@@ -1,12 +1,7 @@
 -- A core beside its journal makes a step by which nothing is delivered and nothing sent: it stays recorded, and the ends of its links stay beside it, also after its desk wrote the notes.
-use Rattle.actor_core.proofs.Names.{◌≡◌, ℕ, ◌+◌, ◌≤◌, Bool, true, false, ◌∷◌, length, refl, ap, arith, Option, None}
-use Rattle.actor_core.proofs.Names.{JobId, Order, final_count, Journal, EachNote, if_from, delivered_names}
-use Rattle.actor_core.proofs.Names.{given_outcomes, DeliversAs, poll_note, settle_note, RecordedView, IsHeld}
-use Rattle.actor_core.proofs.Names.{sum_upto, delivered_count, given_count, IsInOf, LeavesOwed, GivesMore, IsUngiven}
-use Rattle.actor_core.proofs.Names.{KeepsSent, IsSameSeat, grows, OutcomeNote, Inward, ◌*◌, List, [], ◌++◌, sym, ◌∙◌}
-use Rattle.actor_core.proofs.Names.{Settled, subst, Some, HaveTasks, Note, Meaning, CoreView, JobOut, inside_count, IsKept}
-use Rattle.actor_core.proofs.Names.{IsWritten, terms_at, desk_of, IsRecorded, HasTask, KeepsOuts, with_notes, reverse}
-use Rattle.actor_core.proofs.Names.{Envelope, DeskView, terms_of_desk, desk_with, keeps_outs}
+use Rattle.actor_core.proofs.Names.{◌≡◌, ℕ, ◌+◌, ◌≤◌, Bool, true, false, ◌∷◌, length, refl, ap, arith, Option, None, JobId, Order, final_count, Journal, EachNote, if_from, delivered_names, given_outcomes, DeliversAs, poll_note, settle_note}
+use Rattle.actor_core.proofs.Names.{RecordedView, IsHeld, sum_upto, delivered_count, given_count, IsInOf, LeavesOwed, GivesMore, IsUngiven, KeepsSent, IsSameSeat, grows, OutcomeNote, Inward, ◌*◌, List, [], ◌++◌, sym, ◌∙◌, Settled, subst, Some}
+use Rattle.actor_core.proofs.Names.{HaveTasks, Note, Meaning, CoreView, JobOut, inside_count, IsKept, IsWritten, terms_at, desk_of, IsRecorded, HasTask, KeepsOuts, with_notes, reverse, Envelope, DeskView, terms_of_desk, desk_with, keeps_outs}
 use Rattle.actor_core.specs.Carried.{MayNote}
 use Rattle.base_words.specs.declared.note.Note.TheVariants as writes
 use Rattle.core_core.specs.declared.turn.Settled.TheVariants as came

@@ -1,15 +1,8 @@
 -- A core beside its journal stays recorded as an order is delivered to it: the orders by their names, the polls of a new job, and all else.
-use Rattle.actor_core.proofs.Names.{same_name, cond, or_else, ◌==◌, ne_eqb, ◌≡◌, true, false, List, [], ◌∷◌}
-use Rattle.actor_core.proofs.Names.{◌++◌, refl, ◌∙◌, ap, ◌⊎◌, Option, Some, None, option_map, JobId, Note, Envelope}
-use Rattle.actor_core.proofs.Names.{Order, Job, Journal, EachNote, one_name, same_as_itself, without_job, CarriesOut}
-use Rattle.actor_core.proofs.Names.{DeliversAs, order_taken, note_taken, ◌+◌, sym, subst, arith, true≢false}
-use Rattle.actor_core.proofs.Names.{false_from_ne_true, Terms, is_name, delivered_names, name_delivered}
-use Rattle.actor_core.proofs.Names.{number_if, name_settled, MayFollow, MayStand, grows, alone_out, jobs_out, IsOld, known_of}
-use Rattle.actor_core.proofs.Names.{polls_made, ℕ, ◌*◌, ◌<◌, ◌≤◌, length, ⊎_elim, zero-add, reverse, eq-eqb}
-use Rattle.actor_core.proofs.Names.{given_outcomes, Meaning, IsMeaning, CoreView, inside_count, Delivered}
-use Rattle.actor_core.proofs.Names.{IsSpelledOrder, IsKept, RecordedView, terms_at, IsRecorded, IsHeld, IsTaken}
-use Rattle.actor_core.proofs.Names.{HasTask, OwesAfter, sum_upto, delivered_count, given_count, IsSameSeat, GivesMore}
-use Rattle.actor_core.proofs.Names.{told_under, outcome_delivered, OutcomeNote, outcome_note, IsNextIn, Receives}
+use Rattle.actor_core.proofs.Names.{same_name, cond, or_else, ◌==◌, ne_eqb, ◌≡◌, true, false, List, [], ◌∷◌, ◌++◌, refl, ◌∙◌, ap, ◌⊎◌, Option, Some, None, option_map, JobId, Note, Envelope, Order, Job, Journal, EachNote, one_name, same_as_itself}
+use Rattle.actor_core.proofs.Names.{without_job, CarriesOut, DeliversAs, order_taken, note_taken, ◌+◌, sym, subst, arith, true≢false, false_from_ne_true, Terms, is_name, delivered_names, name_delivered, number_if, name_settled, MayFollow, MayStand}
+use Rattle.actor_core.proofs.Names.{grows, alone_out, jobs_out, IsOld, known_of, polls_made, ℕ, ◌*◌, ◌<◌, ◌≤◌, length, ⊎_elim, zero-add, reverse, eq-eqb, given_outcomes, Meaning, IsMeaning, CoreView, inside_count, Delivered, IsSpelledOrder, IsKept}
+use Rattle.actor_core.proofs.Names.{RecordedView, terms_at, IsRecorded, IsHeld, IsTaken, HasTask, OwesAfter, sum_upto, delivered_count, given_count, IsSameSeat, GivesMore, told_under, outcome_delivered, OutcomeNote, outcome_note, IsNextIn, Receives}
 use Rattle.actor_core.proofs.Names.{CoreDelivers}
 use Rattle.base_words.specs.declared.note.Note.TheVariants as writes
 use Rattle.actor_core.proofs.Places.{everywhere}

@@ -1,6 +1,5 @@
 -- A refusal by a shut gate is right only where the gate had let through what this actor had sent.
-use Rattle.actor_core.proofs.Names.{inl, ◌≡◌, ℕ, true, false, List, [], ◌∷◌, ◌++◌, length, Some, Ok, Err, refl, sym, ◌∙◌, ap, arith}
-use Rattle.actor_core.proofs.Names.{Note, Journal, Job}
+use Rattle.actor_core.proofs.Names.{inl, ◌≡◌, ℕ, true, false, List, [], ◌∷◌, ◌++◌, length, Some, Ok, Err, refl, sym, ◌∙◌, ap, arith, Note, Journal, Job}
 use Rattle.base_words.specs.declared.note.Note.TheVariants as writes
 use Rattle.base_words.specs.declared.order.SendError.TheVariants as refused
 use Rattle.base_words.specs.Journal.{EachNote}

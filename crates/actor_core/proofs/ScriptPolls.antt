@@ -1,7 +1,6 @@
 -- The polls of a script job are its words.
-use Rattle.actor_core.proofs.Names.{◌≡◌, ℕ, zero, suc, ◌+◌, true, false, true≢false, List, [], ◌∷◌, length, Option, Some, None, slice_get, refl, sym, ◌∙◌, ap, subst, arith}
-use Rattle.actor_core.proofs.Names.{JobId, Journal, Terms, Step, Call, IfSome, polls_made, poll_note, slice_get_within}
-use Rattle.actor_core.proofs.Names.{inl, inr}
+use Rattle.actor_core.proofs.Names.{◌≡◌, ℕ, zero, suc, ◌+◌, true, false, true≢false, List, [], ◌∷◌, length, Option, Some, None, slice_get, refl, sym, ◌∙◌, ap, subst, arith, JobId, Journal, Terms, Step, Call, IfSome, polls_made, poll_note}
+use Rattle.actor_core.proofs.Names.{slice_get_within, inl, inr}
 use Rattle.std.proofs.lemmas.Bool.Decides.{eqb_tells}
 use Rattle.base_jobs.specs.ScriptMeaning.{script_meaning}
 use Rattle.base_jobs.specs.Scripts.{Script, EndsDone, IsScript, Does}

@@ -1,7 +1,5 @@
 -- Ends of which each knows no less than the one that stood in its place.
-use Rattle.actor_core.proofs.Names.{◌≡◌, ℕ, ◌+◌, ◌<◌, true, List, [], ◌∷◌, ◌++◌, length, Some, refl, sym, ◌∙◌, ap}
-use Rattle.actor_core.proofs.Names.{subst, arith, inl, inr}
-use Rattle.actor_core.proofs.Names.{slice_get, slice_get_within, Outward, PostView, HasPosted}
+use Rattle.actor_core.proofs.Names.{◌≡◌, ℕ, ◌+◌, ◌<◌, true, List, [], ◌∷◌, ◌++◌, length, Some, refl, sym, ◌∙◌, ap, subst, arith, inl, inr, slice_get, slice_get_within, Outward, PostView, HasPosted}
 use Rattle.std.proofs.Common.{set, get_or, get_or-set_same}
 use Rattle.std.proofs.Math.Seq.{get_or-append_seam}
 use Rattle.std.proofs.lemmas.List.{length-set, length-append, get_or_append_left, get_or-set_other}

@@ -1,12 +1,7 @@
 -- A core beside its journal stays recorded as its actor submits, collects, redeems or detaches, and the ends that it receives from stay beside it.
-use Rattle.actor_core.proofs.Names.{inside_count, ◌≡◌, ℕ, List, [], ◌∷◌, ◌++◌, length, refl, sym, ◌∙◌, ap, subst}
-use Rattle.actor_core.proofs.Names.{arith, add-zero, Result, Ok, Err, None, JobId, TicketError, Unknown, Gone, Note}
-use Rattle.actor_core.proofs.Names.{OutcomeNote, Order, Outcome, Envelope, SendError, Closed, Full, NoCore}
-use Rattle.actor_core.proofs.Names.{final_count, created_count, shares, delivered_names, given_outcomes, DeliversAs}
-use Rattle.actor_core.proofs.Names.{Journal, EachNote, or_else, without_job, outcome_note, Meaning, CoreView, Lane}
-use Rattle.actor_core.proofs.Names.{Agrees, polls_made, DeskView, IsWritten, Submits, terms_of_desk, RecordedView}
-use Rattle.actor_core.proofs.Names.{IsRecorded, desk_of, terms_at, given_count, KeepsIn, ArePosts, AreCollected}
-use Rattle.actor_core.proofs.Names.{CollectsFrom, RedeemsTicket, DetachesTicket, IsSameSeat, Pending}
+use Rattle.actor_core.proofs.Names.{inside_count, ◌≡◌, ℕ, List, [], ◌∷◌, ◌++◌, length, refl, sym, ◌∙◌, ap, subst, arith, add-zero, Result, Ok, Err, None, JobId, TicketError, Unknown, Gone, Note, OutcomeNote, Order, Outcome, Envelope, SendError}
+use Rattle.actor_core.proofs.Names.{Closed, Full, NoCore, final_count, created_count, shares, delivered_names, given_outcomes, DeliversAs, Journal, EachNote, or_else, without_job, outcome_note, Meaning, CoreView, Lane, Agrees, polls_made, DeskView}
+use Rattle.actor_core.proofs.Names.{IsWritten, Submits, terms_of_desk, RecordedView, IsRecorded, desk_of, terms_at, given_count, KeepsIn, ArePosts, AreCollected, CollectsFrom, RedeemsTicket, DetachesTicket, IsSameSeat, Pending}
 use Rattle.base_words.specs.declared.note.Note.TheVariants as writes
 use Rattle.std.specs.Prelude.{Bool, true, false}
 use Rattle.link_ends.specs.declared.ends.Outward.{Outward}

@@ -1,16 +1,6 @@
 -- What a settled poll gives and owes, as the caller is told it.
-use Rattle.actor_core.proofs.Names.{◌≡◌, ℕ, Bool, true, false, List, sym}
-use Rattle.actor_core.proofs.Names.{◌∙◌, subst, Option, Some}
-use Rattle.actor_core.proofs.Names.{JobId}
-use Rattle.actor_core.proofs.Names.{Step, Meaning, AfterPoll, IfDone}
-use Rattle.actor_core.proofs.Names.{Settled, JobOut}
-use Rattle.actor_core.proofs.Names.{RecordedView, IsRecorded}
-use Rattle.actor_core.proofs.Names.{Settles, Job}
-use Rattle.actor_core.proofs.Names.{option_map, Inward, IsInOf, told_under, outcome_note, outcome_settled}
-use Rattle.actor_core.proofs.Names.{IfSome, same_Some, Envelope, Outcome}
-use Rattle.actor_core.proofs.Names.{MayGive, Fits, order_taken, KeepsIn, LeavesOwed, Gives, IsOutUnder, OwesSettled}
-use Rattle.actor_core.proofs.Names.{settled_of, stays_in_line}
-use Rattle.actor_core.proofs.Names.{MayAnswer}
+use Rattle.actor_core.proofs.Names.{◌≡◌, ℕ, Bool, true, false, List, sym, ◌∙◌, subst, Option, Some, JobId, Step, Meaning, AfterPoll, IfDone, Settled, JobOut, RecordedView, IsRecorded, Settles, Job, option_map, Inward, IsInOf, told_under}
+use Rattle.actor_core.proofs.Names.{outcome_note, outcome_settled, IfSome, same_Some, Envelope, Outcome, MayGive, Fits, order_taken, KeepsIn, LeavesOwed, Gives, IsOutUnder, OwesSettled, settled_of, stays_in_line, MayAnswer}
 use Rattle.base_jobs.specs.declared.job.Step.TheVariants as steps
 use Rattle.actor_core.proofs.QuietSteps.{given_settled}
 use Rattle.actor_core.proofs.DeliveredEnds.{told_elsewhere}

@@ -1,18 +1,9 @@
 -- A core beside its journal settles the poll of the job that is out, and the end of the job's sender gets the outcome.
-use Rattle.actor_core.proofs.Names.{◌≡◌, ℕ, ◌+◌, ◌≤◌, Bool, true, false, List, [], ◌∷◌, ◌++◌, length, refl, sym}
-use Rattle.actor_core.proofs.Names.{◌∙◌, ap, subst, arith, add-zero, ◌==◌, Option, Some, None, All, is_some}
-use Rattle.actor_core.proofs.Names.{unwrap_or, false_from_ne_true, length-append, All-append, All-cons, All-nil}
-use Rattle.actor_core.proofs.Names.{JobId, Note, same_name, Journal, jobs_out, number_if, alone_out, among}
-use Rattle.actor_core.proofs.Names.{same_as_itself, Step, Call, Meaning, AfterPoll, IsMeaning, IfDone, IfUndone, OwesOn}
-use Rattle.actor_core.proofs.Names.{waiting_of, held_count, ChangesLine, Settled, Yielded, CoreView, JobOut}
-use Rattle.actor_core.proofs.Names.{inside_count, IsTaskOut, settled_view, IsJobOut, polls_made, settle_note}
-use Rattle.actor_core.proofs.Names.{RecordedView, terms_at, IsRecorded, HasTask, note_taken, OwesAfter, sum_upto}
-use Rattle.actor_core.proofs.Names.{given_count, IsOut, IsPolled, Settles, Job, without_job, known_of}
-use Rattle.actor_core.proofs.Names.{option_map, Inward, IsInOf, IsUngiven, told_under, outcome_note, outcome_settled}
-use Rattle.actor_core.proofs.Names.{length-with_last_if, given_outcomes}
-use Rattle.actor_core.proofs.Names.{ChangesParks, HaveTasks, Marks, Parked, Stayed, names_parked, parked_of, settled_of, stays, stays_in_line}
-use Rattle.actor_core.proofs.Names.{with_last}
-use Rattle.actor_core.proofs.Names.{QueuesView, none-some, Finished, CoreSettles, names_of}
+use Rattle.actor_core.proofs.Names.{◌≡◌, ℕ, ◌+◌, ◌≤◌, Bool, true, false, List, [], ◌∷◌, ◌++◌, length, refl, sym, ◌∙◌, ap, subst, arith, add-zero, ◌==◌, Option, Some, None, All, is_some, unwrap_or, false_from_ne_true, length-append, All-append}
+use Rattle.actor_core.proofs.Names.{All-cons, All-nil, JobId, Note, same_name, Journal, jobs_out, number_if, alone_out, among, same_as_itself, Step, Call, Meaning, AfterPoll, IsMeaning, IfDone, IfUndone, OwesOn, waiting_of, held_count, ChangesLine}
+use Rattle.actor_core.proofs.Names.{Settled, Yielded, CoreView, JobOut, inside_count, IsTaskOut, settled_view, IsJobOut, polls_made, settle_note, RecordedView, terms_at, IsRecorded, HasTask, note_taken, OwesAfter, sum_upto, given_count, IsOut}
+use Rattle.actor_core.proofs.Names.{IsPolled, Settles, Job, without_job, known_of, option_map, Inward, IsInOf, IsUngiven, told_under, outcome_note, outcome_settled, length-with_last_if, given_outcomes, ChangesParks, HaveTasks, Marks, Parked, Stayed}
+use Rattle.actor_core.proofs.Names.{names_parked, parked_of, settled_of, stays, stays_in_line, with_last, QueuesView, none-some, Finished, CoreSettles, names_of}
 use Rattle.base_jobs.specs.declared.job.Step.TheVariants as steps
 use Rattle.actor_core.proofs.Places.{each_line, each_parks}
 use Rattle.actor_core.proofs.Sums.{sum_upto-at_most_one, sum_upto-same}
@@ -24,8 +15,7 @@ use Rattle.actor_core.proofs.Marks.{among-place, other_way, parked-place}
 use Rattle.base_words.specs.declared.note.OutcomeNote.TheVariants as outcomes
 use Rattle.actor_core.proofs.EndsKept.{ungiven_if, not_given}
 use Rattle.actor_core.proofs.Received.{task_stays}
-use Rattle.actor_core.proofs.QuietSteps.{given_settled, quiet-settled, IsQuietStep, stepped}
-use Rattle.actor_core.proofs.QuietSteps.{everyone, HasDone, done_so}
+use Rattle.actor_core.proofs.QuietSteps.{given_settled, quiet-settled, IsQuietStep, stepped, everyone, HasDone, done_so}
 
 -- what is given by the note is the outcome that the caller is told
 pub given_told : (J : Type 0) {T : Type 0} (name : JobId) (settled : Settled T) (sender : ℕ) →

@@ -1,9 +1,7 @@
 -- What a core tells of itself in numbers, its journal tells: the jobs inside, and the numbers of each queue.
-use Rattle.actor_core.proofs.Words.{◌≡◌, ℕ, zero, suc, ◌+◌, ◌<◌, ◌≤◌, List, [], ◌∷◌, length, refl, sym, ◌∙◌, ap, arith, get_or, ⊎_elim, Option, Some}
-use Rattle.actor_core.proofs.Words.{None, is_some, ◌==◌, cases_eq, eq-eqb, length-map, Journal, EachNote, MayStand, line, Terms, queue_count}
-use Rattle.actor_core.proofs.Words.{waiting_of, ◌-◌, ◌^◌, ◌↔◌, slice_get, IsTrue, Note, CoreStats, turns, virtual_runtime, Meaning, core_stats}
-use Rattle.actor_core.proofs.Words.{queue_stats, RecordedView, IsRecorded, TellsCore, TellsQueues}
-use Rattle.std.specs.Prelude.{sum_by}
+use Rattle.actor_core.proofs.Words.{◌≡◌, ℕ, zero, suc, ◌+◌, ◌<◌, ◌≤◌, List, [], ◌∷◌, length, refl, sym, ◌∙◌, ap, arith, get_or, ⊎_elim, Option, Some, None, is_some, ◌==◌, cases_eq, eq-eqb, length-map, Journal, EachNote, MayStand, line, Terms}
+use Rattle.actor_core.proofs.Words.{queue_count, waiting_of, ◌-◌, ◌^◌, ◌↔◌, slice_get, IsTrue, Note, CoreStats, turns, virtual_runtime, Meaning, core_stats, queue_stats, RecordedView, IsRecorded, TellsCore, TellsQueues}
+use Rattle.std.specs.Prelude.{sum_by, Bool, true, false}
 use Rattle.std.proofs.lemmas.Bool.{ne_eqb}
 use Rattle.std.proofs.lemmas.List.Sums.{sum_by-cons}
 use Rattle.base_words.specs.HandBacks.{jobs_below, jobs_held}
@@ -17,7 +15,7 @@ use Rattle.core_core.specs.State as state
 use Rattle.core_core.specs.State.{CoreView, JobOut, inside_count}
 use Rattle.actor_core.specs.Agreement.{IsKept}
 use Rattle.actor_core.proofs.Kept.{queue_out-agrees}
-use Rattle.std.proofs.Common.{min}
+use Rattle.std.proofs.Common.{min, subst}
 use Rattle.base_words.specs.declared.note.Note.TheVariants.{Pick}
 use Rattle.base_words.specs.declared.stats.QueueStats.{QueueStats}
 use Rattle.base_words.specs.Lawful.{MayFollow}
@@ -25,14 +23,12 @@ use Rattle.base_words.specs.Limits.{most_turns}
 use Rattle.base_words.proofs.RuntimeBound.{no_runtime_wraps}
 use Rattle.base_words.specs.Stats.{stats_of}
 use Rattle.base_words.specs.Sums.{finished_count, queue_of_told, waiting_count}
-use Rattle.std.specs.Prelude.{Bool, true, false}
 use Rattle.base_words.specs.Filters.{name_finished}
 use Rattle.actor_core.specs.Figures.{counted_up}
 use Rattle.base_words.proofs.WaitingLaw.{waiting_is_line}
 use Rattle.core_core.specs.Closing as closing
 use Rattle.actor_core.specs.Recorded.{terms_at}
 use Rattle.actor_core.specs.Stats.{AreExact}
-use Rattle.std.proofs.Common.{subst}
 use Rattle.std.proofs.lemmas.Option.{get_or_from_slice_get, slice_get_within}
 use Rattle.actor_core.proofs.Drained.{drained_told, drained_here}
 

@@ -1,6 +1,5 @@
 -- Counts of the first actors together, as the count of one of them grows.
-use Rattle.actor_core.proofs.Names.{◌≡◌, ℕ, ◌==◌}
-use Rattle.actor_core.proofs.Names.{zero, suc, ◌+◌, ◌*◌, ◌<◌, ◌≤◌, arith, number_if, sum_upto}
+use Rattle.actor_core.proofs.Names.{◌≡◌, ℕ, ◌==◌, zero, suc, ◌+◌, ◌*◌, ◌<◌, ◌≤◌, arith, number_if, sum_upto}
 
 pub sum_upto-same : (f g : ℕ → ℕ) (last : ℕ) → ((s : ℕ) → f s ≡ g s) → sum_upto f last ≡ sum_upto g last
 sum_upto-same f g zero same = same 0

@@ -1,17 +1,10 @@
 -- Actors that are recorded each by itself are joined, where the ends of their links are: the names that were delivered from one sender are numbered without gaps.
-use Rattle.actor_core.proofs.Names.{◌≡◌, ℕ, ◌+◌, ◌<◌, ◌≤◌, List, [], ◌∷◌, length, refl, sym, ◌∙◌, ap, subst, ⊎_elim}
-use Rattle.actor_core.proofs.Names.{arith, Option, Some, None, take, slice_get, option_map, cases_lt}
-use Rattle.actor_core.proofs.Names.{length-append, map-append, Terms, terms_of, JobId, Note, Order}
-use Rattle.actor_core.proofs.Names.{Outcome, Assembly, IsPrefix, journal_of, first_under, order_of, final_count}
-use Rattle.actor_core.proofs.Names.{accepted_orders, delivered_names, given_outcomes, collected_outcomes, AreJoined}
-use Rattle.actor_core.proofs.Names.{LinksAgree, DeliversAs, DeliversAsSent, Journal, EachNote, IsLawful, MayStand}
-use Rattle.actor_core.proofs.Names.{MayWrite, jobs_out, without_job, Meaning, Outward, Inward, Joined, IsJobOut}
-use Rattle.actor_core.proofs.Names.{numbered_orders, DeskView, terms_of_desk, RecordedView, terms_at, note_taken}
-use Rattle.actor_core.proofs.Names.{cond}
+use Rattle.actor_core.proofs.Names.{◌≡◌, ℕ, ◌+◌, ◌<◌, ◌≤◌, List, [], ◌∷◌, length, refl, sym, ◌∙◌, ap, subst, ⊎_elim, arith, Option, Some, None, take, slice_get, option_map, cases_lt, length-append, map-append, Terms, terms_of, JobId, Note, Order}
+use Rattle.actor_core.proofs.Names.{Outcome, Assembly, IsPrefix, journal_of, first_under, order_of, final_count, accepted_orders, delivered_names, given_outcomes, collected_outcomes, AreJoined, LinksAgree, DeliversAs, DeliversAsSent, Journal}
+use Rattle.actor_core.proofs.Names.{EachNote, IsLawful, MayStand, MayWrite, jobs_out, without_job, Meaning, Outward, Inward, Joined, IsJobOut, numbered_orders, DeskView, terms_of_desk, RecordedView, terms_at, note_taken, cond, order_taken, IsOutOf}
+use Rattle.actor_core.proofs.Names.{IsInOf, name_of, named_outcomes, AreTogether, IsAssemblyOf, suc, zero, ◌++◌, ◌-◌, if_from, with_last, IsNextDelivered, MayFollow}
 use Rattle.base_words.proofs.OpenTurns.{none_either}
 use Rattle.base_words.specs.Bursts.{has_bursts, queue_begun_last, queue_in_turn}
-use Rattle.actor_core.proofs.Names.{order_taken, IsOutOf, IsInOf, name_of, named_outcomes, AreTogether, IsAssemblyOf}
-use Rattle.actor_core.proofs.Names.{suc, zero, ◌++◌, ◌-◌, if_from, with_last, IsNextDelivered, MayFollow}
 use Rattle.base_words.specs.declared.note.Note.TheVariants as writes
 use Rattle.base_words.specs.Assembly.{names_of}
 use Rattle.actor_desk.proofs.NumberedOrders.{length-numbered, first_under-numbered}

@@ -1,8 +1,7 @@
 -- The turn that is open, as a core and as its journal tell it: which notes leave it, and which begin it, add a poll or the time of one, or end it.
-use Rattle.actor_core.proofs.AgreementNames.{Bool, Bursts, IsOpenTurn, JobId, Journal, None, Note, OpenTurn, Option, Reason, Some, add-zero, ap, arith}
-use Rattle.actor_core.proofs.AgreementNames.{begun, cond, false, has_bursts, lasted, name_polled, name_settled, none-some, none_either, or_else, parts_turns}
-use Rattle.actor_core.proofs.AgreementNames.{poll_count, poll_note, poll_settled, polled_again, polls_in_turn, queue_begun, queue_begun_last}
-use Rattle.actor_core.proofs.AgreementNames.{queue_in_turn, queue_just_picked, refl, subst, sym, time_in_turn, time_of_poll, time_summed, true, min, ℕ, ◌+◌, ◌-◌, ◌^◌, ◌∙◌, ◌∷◌, ◌≡◌}
+use Rattle.actor_core.proofs.AgreementNames.{Bool, Bursts, IsOpenTurn, JobId, Journal, None, Note, OpenTurn, Option, Reason, Some, add-zero, ap, arith, begun, cond, false, has_bursts, lasted, name_polled, name_settled, none-some, none_either}
+use Rattle.actor_core.proofs.AgreementNames.{or_else, parts_turns, poll_count, poll_note, poll_settled, polled_again, polls_in_turn, queue_begun, queue_begun_last, queue_in_turn, queue_just_picked, refl, subst, sym, time_in_turn, time_of_poll}
+use Rattle.actor_core.proofs.AgreementNames.{time_summed, true, min, ℕ, ◌+◌, ◌-◌, ◌^◌, ◌∙◌, ◌∷◌, ◌≡◌}
 use Rattle.base_words.specs.declared.note.Note.TheVariants as writes
 
 module _ {T : Type 0} (before : Journal T) where

@@ -1,7 +1,6 @@
 use Rattle.actor_core.specs.OwedPolls.{seen_by}
 use Rattle.actor_core.proofs.SeenEnds.{seen_got}
-use Rattle.actor_core.proofs.OwedSteps.{delivers_keep, creates_keep, shuts_keep, closes_keep, picks_keep, follows_keep, ends_keep, collects_keep}
-use Rattle.actor_core.proofs.OwedSteps.{submits_keep, redeems_keep, detaches_keep}
+use Rattle.actor_core.proofs.OwedSteps.{delivers_keep, creates_keep, shuts_keep, closes_keep, picks_keep, follows_keep, ends_keep, collects_keep, submits_keep, redeems_keep, detaches_keep}
 use Rattle.actor_core.proofs.laws.others_owe_polls.Goals as goal
 
 pub returns-clause-seen : goal.returns-clause-seen

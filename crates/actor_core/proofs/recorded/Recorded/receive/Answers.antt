@@ -1,5 +1,4 @@
-use Rattle.actor_core.proofs.Names.{◌≤◌, refl, length, length-reverse, sym, ◌∙◌, ap, subst, arith, IsSpelledOrder}
-use Rattle.actor_core.proofs.Names.{IsNextIn}
+use Rattle.actor_core.proofs.Names.{◌≤◌, refl, length, length-reverse, sym, ◌∙◌, ap, subst, arith, IsSpelledOrder, IsNextIn}
 use Rattle.actor_core.proofs.Received.{done, room_in, received_now}
 use Rattle.actor_core.proofs.CarriedOut.{fits_delivered}
 use Rattle.actor_core.proofs.QuietSteps.{view_of, may_note, desk_is}
