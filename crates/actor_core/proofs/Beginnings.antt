@@ -44,24 +44,10 @@ module _ {T : Type 0} (before : Journal T) (name : JobId) where
 
 module _ {J T : Type 0} (old : RecordedView J T) (name : JobId) (queue : ℕ) (started : Bool) (job : J) (new : RecordedView J T) where
   pub pick_begins : IsPick old name queue started job new → IsBeginning old name queue started job new
-  pick_begins picks = record {
-    before = writes.Pick queue picks.runtime ∷ [];
-    quiet = (refl, tt);
-    due = inl refl;
-    notes = ap (λ journal. journal.notes) picks.journal;
-    out = picks.out;
-    took = picks.took;
-  }
+  pick_begins picks = record { before = writes.Pick queue picks.runtime ∷ []; quiet = (refl, tt); due = inl refl; notes = ap (λ journal. journal.notes) picks.journal; out = picks.out; took = picks.took }
 
   pub further_begins : IsFurther old name queue started job new → IsBeginning old name queue started job new
-  further_begins further = record {
-    before = [];
-    quiet = tt;
-    due = inr further.goes_on;
-    notes = ap (λ journal. journal.notes) further.journal;
-    out = further.out;
-    took = further.took;
-  }
+  further_begins further = record { before = []; quiet = tt; due = inr further.goes_on; notes = ap (λ journal. journal.notes) further.journal; out = further.out; took = further.took }
 
   -- and of which turn it is
   pub pick_in_turn : IsPick old name queue started job new → StandsInTurn queue 1 new.journal.notes

@@ -1,5 +1,5 @@
 -- What a core does with an order that is delivered to it, case by case, told in one form.
-use Rattle.actor_core.proofs.Names.{Line, Marks, MayStand, Wake, ◌&&◌, is_inside, is_return, job_at, out_told, parked_of, suc, ⊎_elim, All-append, ◌≡◌, ℕ, ◌+◌, ◌≤◌, true, false, List, [], ◌∷◌, ◌++◌, length, refl, sym, ◌∙◌, ap, subst, arith}
+use Rattle.actor_core.proofs.Names.{Line, Marks, MayStand, Wake, ◌&&◌, is_inside, is_return, job_at, out_told, suc, ⊎_elim, All-append, ◌≡◌, ℕ, ◌+◌, ◌≤◌, true, false, List, [], ◌∷◌, ◌++◌, length, refl, sym, ◌∙◌, ap, subst, arith}
 use Rattle.actor_core.proofs.Names.{add-zero, cond, ◌==◌, Option, Some, None, is_some, All, length-append, All-cons, All-nil, InRange, JobId, Note, Order, Job, Create, SetShares, Reason, Answer, Journal, EachNote, with_last, delivered_names}
 use Rattle.actor_core.proofs.Names.{given_outcomes, number_if, refusal, IsAnswer, has_effect, IsNextDelivered, length-with_last_if, queue_count, waiting_of, held_count, CoreView, inside_count, Enters, Creates, Weighs, counted, without_job}
 use Rattle.actor_core.proofs.Names.{polls_made, IsDelivery, entry_note, IsKept, DeliversAs, GivesMore, told_under, OutcomeNote, RecordedView, terms_at, sum_upto, delivered_count, given_count, le-leb, Close, CloseCore, Mode, closes, queue_mode}
@@ -136,15 +136,8 @@ module _ {J T : Type 0} (old : RecordedView J T) (name : JobId)
         IsCarriedOut old name (Create weight) (Some (outcome.Answered (answers.Created queue))) core (writes.Created queue weight ∷ writes.Answered name (answers.Created queue) ∷ [])
     creates_queue queue weight in_range number_is creates now =
         let answered = kept-created (terms_at old) old.core core name queue weight journal kept next sender in_range now number_is creates in
-        let holds : HoldsSame old.core core = record {
-          number = ap (λ core. core.core) creates.rest;
-          cores = ap (λ core. core.cores) creates.rest;
-          burst = ap (λ core. core.bursts.burst) creates.rest;
-          room = creates.added.same_room;
-          same_held = creates.added.same_held;
-          carries = carries-same creates.added.same_lines creates.added.same_parks;
-          out = subst (SameOut old.core.out) (sym (ap (λ core. core.out) creates.rest)) (same_out old.core.out);
-        } in
+        let holds : HoldsSame old.core core = subst (HoldsSame old.core) (sym creates.rest)
+        (record { number = refl; cores = refl; burst = refl; room = creates.added.same_room; same_held = creates.added.same_held; carries = carries-same creates.added.same_lines creates.added.same_parks; out = same_out old.core.out }) in
         moves_none (Create weight) (outcome.Answered (answers.Created queue)) (writes.Created queue weight ∷ writes.Answered name (answers.Created queue) ∷ []) core answered.1 holds (assumption)
         (λ from. refl) counted_one unpolled_twice (answers.Created queue, answered.0, refl) (λ under at before. (λ has. (Create weight, at, refl), ((Create weight, at, answered.0), before))) (omega arith)
 
@@ -153,15 +146,8 @@ module _ {J T : Type 0} (old : RecordedView J T) (name : JobId)
         IsCarriedOut old name (SetShares queue weight) (Some (outcome.Answered answers.SharesSet)) core (writes.SharesSet queue weight ∷ writes.Answered name answers.SharesSet ∷ [])
     sets_shares queue weight in_range weighs now =
         let answered = kept-weighed (terms_at old) old.core core name queue weight journal kept next sender in_range now weighs in
-        let holds : HoldsSame old.core core = record {
-          number = ap (λ core. core.core) weighs.rest;
-          cores = ap (λ core. core.cores) weighs.rest;
-          burst = ap (λ core. core.bursts.burst) weighs.rest;
-          room = weighs.shares.same_room;
-          same_held = weighs.shares.same_held;
-          carries = carries-same weighs.shares.same_lines weighs.shares.same_parks;
-          out = subst (SameOut old.core.out) (sym (ap (λ core. core.out) weighs.rest)) (same_out old.core.out);
-        } in
+        let holds : HoldsSame old.core core = subst (HoldsSame old.core) (sym weighs.rest)
+        (record { number = refl; cores = refl; burst = refl; room = weighs.shares.same_room; same_held = weighs.shares.same_held; carries = carries-same weighs.shares.same_lines weighs.shares.same_parks; out = same_out old.core.out }) in
         moves_none (SetShares queue weight) (outcome.Answered answers.SharesSet) (writes.SharesSet queue weight ∷ writes.Answered name answers.SharesSet ∷ []) core answered.1 holds (assumption)
         (λ from. refl) counted_one unpolled_twice (answers.SharesSet, answered.0, refl) (λ under at before. (λ has. (SetShares queue weight, at, refl), ((SetShares queue weight, at, answered.0), before))) (omega arith)
 
@@ -228,29 +214,15 @@ module _ {J T : Type 0} (old : RecordedView J T) (name : JobId)
     wakes_out : (core : CoreView J) → KeepsOutWake middle job core → IsCarriedOut old name (Wake actor number) (Some (outcome.Answered answers.Woken)) core (writes.Woken job ∷ writes.Answered name answers.Woken ∷ [])
     wakes_out core keeps =
         let inside = inside-out (terms_at old) old.core job journal kept.notes kept.agrees keeps.out keeps.was_out keeps.named in
-        let holds : HoldsSame old.core core = record {
-          number = ap (λ core. core.core) keeps.rest;
-          cores = ap (λ core. core.cores) keeps.rest;
-          burst = ap (λ core. core.bursts.burst) keeps.rest;
-          room = ap (λ core. core.queues.room) keeps.rest;
-          same_held = ap (λ core. held_count core.queues) keeps.rest;
-          carries = carries-same (λ queue. ap (λ core. waiting_of queue core.queues) keeps.rest) (λ queue. ap (λ core. parked_of queue core.queues) keeps.rest);
-          out = subst (λ out. SameOut out core.out) (sym keeps.was_out) (true, ap (λ core. core.out) keeps.rest);
-        } in
+        let holds : HoldsSame old.core core = subst (HoldsSame old.core) (sym keeps.rest)
+        (record { number = refl; cores = refl; burst = refl; room = refl; same_held = refl; carries = λ P was. was; out = subst (λ out. SameOut out (Some (record keeps.out { woken = true }))) (sym keeps.was_out) (true, refl) }) in
         wakes_job core holds (agrees-out_woken (terms_at old) middle job (writes.Answered name answers.Woken ∷ journal) (woken_notes inside) (answered_agrees answers.Woken) core keeps) inside
 
     wakes_line : (core : CoreView J) → KeepsLineWake middle job core → IsCarriedOut old name (Wake actor number) (Some (outcome.Answered answers.Woken)) core (writes.Woken job ∷ writes.Answered name answers.Woken ∷ [])
     wakes_line core wakes =
         let inside = inside-line (terms_at old) old.core job journal kept.notes kept.agrees wakes.keeps in
-        let holds : HoldsSame old.core core = record {
-          number = ap (λ core. core.core) wakes.rest;
-          cores = ap (λ core. core.cores) wakes.rest;
-          burst = ap (λ core. core.bursts.burst) wakes.rest;
-          room = wakes.keeps.line.same_room;
-          same_held = omega (arith, wakes.keeps.line.held, ap length wakes.keeps.was, same_length wakes.keeps.before wakes.keeps.marks (record wakes.keeps.marks { woken = true }) wakes.keeps.job wakes.keeps.behind);
-          carries = carries-kept_wake job wakes.keeps;
-          out = subst (SameOut old.core.out) (sym (ap (λ core. core.out) wakes.rest)) (same_out old.core.out);
-        } in
+        let held : held_count core.queues ≡ held_count old.core.queues = omega (arith, wakes.keeps.line.held, ap length wakes.keeps.was, same_length wakes.keeps.before wakes.keeps.marks (record wakes.keeps.marks { woken = true }) wakes.keeps.job wakes.keeps.behind) in
+        let holds : HoldsSame old.core core = subst (HoldsSame old.core) (sym wakes.rest) (record { number = refl; cores = refl; burst = refl; room = wakes.keeps.line.same_room; same_held = held; carries = carries-kept_wake job wakes.keeps; out = same_out old.core.out }) in
         wakes_job core holds (agrees-line_woken (terms_at old) middle job (writes.Answered name answers.Woken ∷ journal) (woken_notes inside) (answered_agrees answers.Woken) core wakes) inside
       where
         same_length : (front : Line J) (was now : Marks) (its : J) (rest : Line J) → length (front ++ (job, now, its) ∷ rest) ≡ length (front ++ (job, was, its) ∷ rest)
@@ -260,15 +232,8 @@ module _ {J T : Type 0} (old : RecordedView J T) (name : JobId)
     wakes_parked : (core : CoreView J) → EndsPark middle job core → IsCarriedOut old name (Wake actor number) (Some (outcome.Answered answers.Woken)) core (writes.Woken job ∷ writes.Answered name answers.Woken ∷ [])
     wakes_parked core ends =
         let inside = inside-parked (terms_at old) old.core job journal kept.notes kept.agrees ends.queue ends.wakes in
-        let holds : HoldsSame old.core core = record {
-          number = ap (λ core. core.core) ends.rest;
-          cores = ap (λ core. core.cores) ends.rest;
-          burst = ap (λ core. core.bursts.burst) ends.rest;
-          room = ends.wakes.moves.same_room;
-          same_held = ends.wakes.moves.same_held;
-          carries = carries-woken job ends.queue ends.wakes;
-          out = subst (SameOut old.core.out) (sym (ap (λ core. core.out) ends.rest)) (same_out old.core.out);
-        } in
+        let holds : HoldsSame old.core core = subst (HoldsSame old.core) (sym ends.rest)
+        (record { number = refl; cores = refl; burst = refl; room = ends.wakes.moves.same_room; same_held = ends.wakes.moves.same_held; carries = carries-woken job ends.queue ends.wakes; out = same_out old.core.out }) in
         wakes_job core holds (agrees-park_ended (terms_at old) middle job (writes.Answered name answers.Woken ∷ journal) (woken_notes inside) (answered_agrees answers.Woken) core ends) inside
 
     wakes : (core : CoreView J) → WakesJob middle job core → IsCarriedOut old name (Wake actor number) (Some (outcome.Answered answers.Woken)) core (writes.Woken job ∷ writes.Answered name answers.Woken ∷ [])

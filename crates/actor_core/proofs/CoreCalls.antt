@@ -1,5 +1,5 @@
 -- A core beside its journal creates a queue before anything else is done, closes by itself, and shuts the gate of a sender, whose end stays beside it.
-use Rattle.actor_core.proofs.Names.{HaveTasks, held_count, is_return, parked_of, waiting_of, ◌&&◌, DeliversAs, EachNote, none-some, ◌≡◌, ℕ, ◌+◌, List, [], ◌∷◌, refl, sym, ◌∙◌, ap, subst, arith, add-zero, is_some, Result, Ok, Err, InRange, JobId}
+use Rattle.actor_core.proofs.Names.{HaveTasks, is_return, ◌&&◌, DeliversAs, EachNote, none-some, ◌≡◌, ℕ, ◌+◌, List, [], ◌∷◌, refl, sym, ◌∙◌, ap, subst, arith, add-zero, is_some, Result, Ok, Err, InRange, JobId}
 use Rattle.actor_core.proofs.Names.{Note, Journal, IsOpening, number_if, Meaning, queue_count, CreateError, TooMany, Memory, CoreView, inside_count, Creates, polls_made, RecordedView, terms_at, IsRecorded, HasTask, CreatesQueue, Bool, true, false}
 use Rattle.actor_core.proofs.Names.{cond, Option, Some, None, Mode, Order, closes, core_mode, effect_awaited, CarriesOut, ClosesCore, ClosesItself, ◌≤◌, length, reverse, ◌≢◌, IsSome, slice_set, eq-eqb, ne_eqb, true≢false, length-append, IsNextShut}
 use Rattle.actor_core.proofs.Names.{final_count, or_else, gate_of, ShutsGate, Inward, SoundIn, Shuts, IsInOf, TellsShut, given_count, sum_upto, JobOut, CoreCreates}
@@ -7,7 +7,7 @@ use Rattle.base_words.specs.declared.note.Note.TheVariants as writes
 use Rattle.actor_core.specs.Agreement.{IsKept}
 use Rattle.actor_core.proofs.Kept.{kept_after}
 use Rattle.core_core.specs.Closing as core_says
-use Rattle.actor_core.proofs.Inside.{HoldsSame, SameOut, carries-same, holds-closed, same_out, same_out-holds, same_out-some}
+use Rattle.actor_core.proofs.Inside.{HoldsSame, carries-same, holds-closed, same_out, same_out-holds, same_out-some}
 use Rattle.actor_core.proofs.KeptClosings.{agrees-core_closed, ended_if}
 use Rattle.actor_core.proofs.KeptDeliveries.{agrees-created, agrees-shut}
 use Rattle.actor_core.proofs.Received.{task_stays, tasks_stay}
@@ -42,15 +42,8 @@ module _ {J T : Type 0} {meaning : Meaning J T}
     created =
         let kept = kept_after (terms_at old) (writes.Created queue weight) recorded.kept (agrees-created old.core core queue weight old.journal.notes recorded.kept.agrees next creates delivered)
         recorded.kept.is_core (record { next = next ∙ recorded.kept.agrees.last; in_range = omega (arith, next, creates.few); shares = in_range }) refl opening refl refl in
-        let holds : HoldsSame old.core core = record {
-          number = ap (λ core. core.core) creates.rest;
-          cores = ap (λ core. core.cores) creates.rest;
-          burst = ap (λ core. core.bursts.burst) creates.rest;
-          room = creates.added.same_room;
-          same_held = creates.added.same_held;
-          carries = carries-same creates.added.same_lines creates.added.same_parks;
-          out = subst (SameOut old.core.out) (sym (ap (λ core. core.out) creates.rest)) (same_out old.core.out);
-        } in
+        let holds : HoldsSame old.core core = subst (HoldsSame old.core) (sym creates.rest)
+        (record { number = refl; cores = refl; burst = refl; room = creates.added.same_room; same_held = creates.added.same_held; carries = carries-same creates.added.same_lines creates.added.same_parks; out = same_out old.core.out }) in
         let as_sent : (under : _) → EachNote (DeliversAs under) old.journal.notes → EachNote (DeliversAs under) (writes.Created queue weight ∷ old.journal.notes) = λ under before. (carries_none under (writes.Created queue weight) old.journal.notes recorded.kept.no_answer, before) in
         unmoved_step old recorded core holds (writes.Created queue weight) kept (assumption as_sent) (λ which. add-zero (polls_made which old.journal.notes))
 
@@ -100,15 +93,7 @@ module _ {J T : Type 0} (old : RecordedView J T) (from count : ℕ) (core : Core
       let kept = kept_after (terms_at old) (writes.Shut from count) recorded.kept (agrees-shut old.core core old.journal.notes recorded.kept.agrees from count next.known is) recorded.kept.is_core next
       refl tt refl refl in
       let gates = λ (sender : ℕ) (away : sender ≡ from → ⊥). ap (λ test. or_else (cond test (Some count) None) (final_count sender old.journal.notes)) (ne_eqb sender from away) in
-      let holds : HoldsSame old.core core = record {
-        number = ap (λ core. core.core) is;
-        cores = ap (λ core. core.cores) is;
-        burst = ap (λ core. core.bursts.burst) is;
-        room = ap (λ core. core.queues.room) is;
-        same_held = ap (λ core. held_count core.queues) is;
-        carries = carries-same (λ queue. ap (λ core. waiting_of queue core.queues) is) (λ queue. ap (λ core. parked_of queue core.queues) is);
-        out = subst (SameOut old.core.out) (sym (ap (λ core. core.out) is)) (same_out old.core.out);
-      } in
+      let holds : HoldsSame old.core core = subst (HoldsSame old.core) (sym is) (record { number = refl; cores = refl; burst = refl; room = refl; same_held = refl; carries = λ P was. was; out = same_out old.core.out }) in
       unmoved_step old recorded core holds (writes.Shut from count) kept (assumption gates) (λ which. add-zero (polls_made which old.journal.notes))
 
   -- the end of this sender is shut where the journal says so

@@ -149,10 +149,4 @@ module _ {J T : Type 0} {meaning : Meaning J T} (old : RecordedView J T) (record
 
     pub ended_did : HasDone meaning old core everyone nobody 1 (λ old new. EndsTurn old time new) told
     ended_did = subst (λ core. HasDone meaning old core everyone nobody 1 (λ old new. EndsTurn old time new) told) (sym ends.rest)
-        (done_so ends.noted ended (omega arith) (record {
-          queue = ends.turn.queue;
-          ends = ends_turn (terms_at old) old.core notes recorded.kept ends.turn ends.was_open ends.free time ends.over ends.its_time;
-          journal = refl;
-          out = ends.free;
-          took = refl;
-        }))
+        (done_so ends.noted ended (omega arith) (record { queue = ends.turn.queue; ends = ends_turn (terms_at old) old.core notes recorded.kept ends.turn ends.was_open ends.free time ends.over ends.its_time; journal = refl; out = ends.free; took = refl }))

@@ -108,16 +108,4 @@ module _ {J T : Type 0} (terms : Terms) (old : CoreView J) (name : JobId) (queue
   out_exists out at = subst (λ from. from < queue_count queues) (ap (λ job. job.queue) (same_Some _ out at)) (rw front.line.same_count exists)
 
   pub knows_front : KnowsFront terms old name queue marks job queues front.others journal
-  knows_front = record {
-    first_in_line = first_in_line;
-    nobody = nobody;
-    start_told = start_told;
-    wake_is = wake_is;
-    reason_told = reason_told;
-    its_queue = its_queue;
-    exists = exists;
-    lines_now = lines_now;
-    apart_in = apart_in;
-    marks_then = marks_then;
-    out_exists = out_exists;
-  }
+  knows_front = assumption (first_in_line, nobody, start_told, wake_is, reason_told, its_queue, exists, lines_now, apart_in, marks_then, out_exists)

@@ -129,15 +129,8 @@ pub record HoldsSame {J : Type 0} (old core : CoreView J) : Type 1 where
 pub holds-closed : {J : Type 0} (old closed new : CoreView J) (ends : ℕ → Bool) → closed ≡ record old { queues = closed.queues; mode = closed.mode } →
     ((queue : ℕ) → waiting_of queue closed.queues ≡ waiting_of queue old.queues) → ((queue : ℕ) → parked_of queue closed.queues ≡ parked_of queue old.queues) →
     closed.queues.room ≡ old.queues.room → held_count closed.queues ≡ held_count old.queues → core_says.EndsParks closed ends new → HoldsSame old new
-holds-closed old closed new ends is lines parks room held ended = record {
-  number = ap (λ core. core.core) new_is;
-  cores = ap (λ core. core.cores) new_is;
-  burst = ap (λ core. core.bursts.burst) new_is;
-  room = ended.same_room ∙ room;
-  same_held = ended.same_held ∙ held;
-  carries = λ P was. carries-ended closed new ends ended P (carries-same lines parks P was);
-  out = subst (SameOut old.out) (sym (ap (λ core. core.out) new_is)) (same_out old.out);
-}
+holds-closed old closed new ends is lines parks room held ended =
+    subst (HoldsSame old) (sym new_is) (record { number = refl; cores = refl; burst = refl; room = ended.same_room ∙ room; same_held = ended.same_held ∙ held; carries = λ P was. carries-ended closed new ends ended P (carries-same lines parks P was); out = same_out old.out })
   where
     new_is : new ≡ record old { queues = new.queues; tallies = new.tallies; mode = closed.mode }
     new_is = ended.rest ∙ ap (λ (core : CoreView _). record core { queues = new.queues; tallies = new.tallies }) is

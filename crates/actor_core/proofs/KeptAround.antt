@@ -50,11 +50,4 @@ module _ {J T : Type 0} {meaning : Meaning J T} {old new : RecordedView J T} {na
   none_behind_back did = ap (λ journal. queue_in_turn new.core.bursts.burst journal.notes) did.journal ∙ none_either (has_bursts new.core.bursts.burst)
 
   pub sent_under : IsHandBack meaning old name reason order new → IsSentUnder meaning new.took name order
-  sent_under did = record {
-    queue = did.queue;
-    sent = did.sent;
-    task = ap (λ took. order_taken took name) did.took ∙ did.task;
-    job = did.job;
-    back = did.back;
-    same_task = did.same_task;
-  }
+  sent_under did = record { queue = did.queue; sent = did.sent; task = ap (λ took. order_taken took name) did.took ∙ did.task; job = did.job; back = did.back; same_task = did.same_task }

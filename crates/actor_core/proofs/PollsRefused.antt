@@ -1,5 +1,8 @@
 -- Each of the small journals has a poll that isn't owed.
-use Rattle.actor_core.proofs.Names.{inl, ◌≡◌, ℕ, Bool, true, false, List, [], ◌∷◌, ◌++◌, length, Option, Some, Result, Ok, Err, refl, sym, ◌∙◌, ap, subst, arith, JobId, Note, Journal, ArePosts, poll_note, Step, SendError, Job, IfSome}
+use Rattle.actor_core.proofs.Names.{◌⊎◌, ◌+◌, inl, ◌≡◌, ℕ, Bool, true, false, List, [], ◌∷◌, ◌++◌, length, Option, Some, Result, Ok, Err, refl, sym, ◌∙◌, ap, subst, arith}
+use Rattle.actor_core.proofs.Names.{JobId, Note, Journal, ArePosts, poll_note, polls_made, Step, SendError, Job, IfDone, IfSome, Terms}
+use Rattle.base_words.specs.Bursts.{queue_just_picked}
+use Rattle.base_words.specs.Lawful.{GoesOn}
 use Rattle.base_words.specs.declared.note.Note.TheVariants as writes
 use Rattle.base_words.specs.declared.order.Mode.TheVariants.{Return}
 use Rattle.base_words.specs.declared.order.Order.TheVariants.{CloseCore}
@@ -16,7 +19,7 @@ use Rattle.actor_core.specs.OwedPolls.{IsOwedPoll}
 use Rattle.actor_core.specs.BadPolls.{job, sent, to_itself, terms, open_links, other_orders, ordered, begun, PollsAreRefused, OneIsOwed}
 use Rattle.actor_core.proofs.OneBeginning.{IsPollBehind, poll_behind, calls_post}
 
-abbrev pub script : List Poll → Script
+abbrev script : List Poll → Script
 script polls = record { polls = polls; polled = 0 }
 
 -- the poll of the job of these polls, behind its beginning
@@ -28,6 +31,18 @@ module _ (seen : Seen Script) (polls : List Poll) (time : ℕ) (step : Step ℕ)
       let same : owed.sent ≡ script polls = cc in
       subst (λ sent. IsPollBehind script_meaning terms seen sent job time step posts started earlier) same
       (poll_behind script_meaning terms seen owed.sent job time step owed.queue posts started earlier are owed.poll)
+
+-- and such a poll is owed where it was begun in its turn, its calls and its step are what it owes, and they are answered as the journal says
+pub owed_so : {terms : Terms} {seen : Seen Script} (polls : List Poll) {time : ℕ} {step : Step ℕ} {before : Journal ℕ} (calls : List (Call Script ℕ)) (started : Bool) (earlier : Journal ℕ) →
+    (queue_just_picked earlier ≡ Some 0) ⊎ GoesOn terms.burst 0 earlier → before ≡ posted_notes calls ++ poll_note job started ∷ earlier → AreRightAnswers terms seen calls (poll_note job started ∷ earlier) →
+    script_meaning.polls (script polls) (script_meaning.made (script polls) + polls_made job earlier) calls step (Some time) → IfDone step (script_meaning.answers (script polls)) →
+    IsOwedPoll script_meaning terms seen (ordered polls) job time step before
+owed_so polls {time = time} calls started earlier due stands right owed answered = record {
+  queue = 0;
+  sent = script polls;
+  task = refl;
+  poll = record { calls = calls; told = Some time; was_started = started; earlier = earlier; due = due; stands = stands; right = right; owed = owed; answered = answered; timed = refl };
+}
 
 -- If the gate of the core isn't shut before the first order, the link is empty and there is such a core, nothing gives a reason to refuse.
 module _ (seen : Seen Script) (unshut : seen.shut 1 0 → ⊥) where
@@ -155,53 +170,16 @@ polls_refused = record {
   closes_in_a_poll = λ owed. never_begun yields steps.Yield 5 (writes.CoreClosed Return) begun tt owed.0;
 }
 
+-- a first poll that submits the small job and keeps no ticket is owed by a task that begins so
+pub owed_first : {seen : Seen Script} (polls : List Poll) → seen.sent (sent 1) (Job 0 small_job) → script_meaning.polls (script polls) 0 (Submit 1 (Job 0 small_job) (Ok (sent 1)) ∷ Detach (sent 1) (Ok tt) ∷ []) steps.Yield (Some 5) →
+    IsOwedPoll script_meaning terms seen (ordered polls) job 5 steps.Yield (writes.Detached (sent 1) ∷ writes.Sent (sent 1) (Job 0 tt) ∷ begun)
+owed_first polls saw owed =
+    owed_so polls (Submit 1 (Job 0 small_job) (Ok (sent 1)) ∷ Detach (sent 1) (Ok tt) ∷ []) false (writes.Pick 0 0 ∷ first) (inl refl) refl
+    ((record { sender = refl; receiver = omega arith; next = refl; in_range = omega arith; credit = omega arith; spelled = omega arith }, refl, saw), (record { order = Job 0 tt; accepted = refl; kept = refl }, tt)) owed tt
+
 -- the polls of a job that submits once and is done
 pub one_is_owed : OneIsOwed
 one_is_owed = (
-  record {
-    queue = 0;
-    sent = script submits;
-    task = refl;
-    poll = record {
-      calls = [];
-      told = Some 1;
-      was_started = true;
-      earlier = writes.Pick 0 5 ∷ writes.Yield job 5 ∷ writes.Detached (sent 1) ∷ writes.Sent (sent 1) (Job 0 tt) ∷ begun;
-      due = inl refl;
-      stands = refl;
-      right = tt;
-      owed = (refl, refl, refl);
-      answered = refl;
-      timed = refl;
-    };
-  },
-  (
-    tt,
-    (
-      tt,
-      (
-        record {
-          queue = 0;
-          sent = script submits;
-          task = refl;
-          poll = record {
-            calls = Submit 1 (Job 0 small_job) (Ok (sent 1)) ∷ Detach (sent 1) (Ok tt) ∷ [];
-            told = Some 5;
-            was_started = false;
-            earlier = writes.Pick 0 0 ∷ first;
-            due = inl refl;
-            stands = refl;
-            right = (
-              (record { sender = refl; receiver = omega arith; next = refl; in_range = omega arith; credit = omega arith; spelled = omega arith }, refl, tt),
-              (record { order = Job 0 tt; accepted = refl; kept = refl }, tt),
-            );
-            owed = (record { answer = Ok (sent 1); are = refl }, refl, refl);
-            answered = tt;
-            timed = refl;
-          };
-        },
-        (tt, (tt, (tt, (tt, (tt, tt))))),
-      ),
-    ),
-  ),
+  owed_so submits [] true (writes.Pick 0 5 ∷ writes.Yield job 5 ∷ writes.Detached (sent 1) ∷ writes.Sent (sent 1) (Job 0 tt) ∷ begun) (inl refl) refl tt (refl, refl, refl) refl,
+  (tt, (tt, (owed_first submits tt (record { answer = Ok (sent 1); are = refl }, refl, refl), (tt, (tt, (tt, (tt, (tt, tt)))))))),
 )

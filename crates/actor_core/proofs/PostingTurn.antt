@@ -160,17 +160,12 @@ module _ {J T E : Type 0} {meaning : Meaning J T} (laws : IsMeaning meaning) (be
           let may_answer = subst (λ name. MayAnswer meaning took name (settled_of step woken)) (ap (λ job. job.name) (same_Some settles_it.out its_out (sym settles_it.was_out ∙ begun.out)))
           (its_answer meaning took settles_it.out.name settles_it.out.queue settles_it.sent settles_it.task ran.step (settled_of step woken) (stays_in_line settles_it.out.name left.journal.notes) settles_it.tells settles_it.answered) in
           let spends = spends_it own noted_own in
-          record {
-            turns = turned {tells = tells} told_it makes;
-            owes = owes;
-            may_answer = may_answer;
-            outs = outs_kept polled_view new (assumption has_settled) later (subst (λ desk. AreOutsOf (Fits meaning) out credited desk later) at_poll.1 outs);
-            few = omega (arith, spends, few_left);
-            spends = spends;
-            left = few_left;
-            in_turn = in_turn;
-            at_rest = settles_it.out_now;
-            took = refl;
-            seat = seat;
-            sound = turned_invariant.0;
-          }
+          let few : length said_now.journal.notes ≤ length said.journal.notes + core.cores * (3 * said.cap) + own = omega (arith, spends, few_left) in
+          assumption (
+            turned {tells = tells} told_it makes,
+            outs_kept polled_view new (assumption has_settled) later (subst (λ desk. AreOutsOf (Fits meaning) out credited desk later) at_poll.1 outs),
+            in_turn,
+            settles_it.out_now,
+            seat,
+            turned_invariant.0,
+          )

@@ -81,12 +81,7 @@ module _ {J T : Type 0} {meaning : Meaning J T} where
   pub task_stays : {old new : List (Envelope J)} {before after : Journal T} {queue : ℕ} {name : JobId} {job : J} →
       ((order : Order J) → order_taken old name ≡ Some order → order_taken new name ≡ Some order) → polls_made name after ≡ polls_made name before →
       HasTask meaning old before queue name job → HasTask meaning new after queue name job
-  task_stays {job = job} stays as_before task = record {
-    sent = task.sent;
-    task = stays (Job _ task.sent) task.task;
-    same_task = task.same_task;
-    owes = subst (λ count. OwesAfter meaning task.sent count job) (sym as_before) task.owes;
-  }
+  task_stays {job = job} stays as_before task = record { sent = task.sent; task = stays (Job _ task.sent) task.task; same_task = task.same_task; owes = subst (λ count. OwesAfter meaning task.sent count job) (sym as_before) task.owes }
 
 module _ {J T : Type 0} {meaning : Meaning J T} (old : RecordedView J T) (recorded : IsRecorded meaning old)
     (written : List (Note T)) (unpolled : (which : JobId) → polls_made which (written ++ old.journal.notes) ≡ polls_made which old.journal.notes) where

@@ -1,16 +1,16 @@
 -- A refusal by a shut gate is right only where the gate had let through what this actor had sent.
-use Rattle.actor_core.proofs.Names.{inl, ◌≡◌, ℕ, true, false, List, [], ◌∷◌, ◌++◌, length, Some, Ok, Err, refl, sym, ◌∙◌, ap, arith, Note, Journal, Job}
+use Rattle.actor_core.proofs.Names.{inl, ◌≡◌, ℕ, true, false, List, [], ◌∷◌, ◌++◌, length, Ok, Err, refl, sym, ◌∙◌, ap, arith, Note, Journal, Job}
 use Rattle.base_words.specs.declared.note.Note.TheVariants as writes
 use Rattle.base_words.specs.declared.order.SendError.TheVariants as refused
 use Rattle.base_words.specs.Journal.{EachNote}
-use Rattle.base_jobs.specs.Calls.Call.{Submit, Detach}
+use Rattle.base_jobs.specs.Calls.Call.{Submit}
 use Rattle.base_jobs.specs.ScriptMeaning.{script_meaning}
 use Rattle.base_jobs.specs.Scripts.{small_job}
 use Rattle.base_jobs.specs.declared.job.Step.TheVariants as steps
 use Rattle.actor_core.specs.OwedPolls.{PollIsOwed}
 use Rattle.actor_core.specs.BadPolls.{begun, job, ordered, sent, terms}
 use Rattle.actor_core.specs.BadRefusals.{AreOwed, RefusalsAreCounted, accepted, shut_at, submits_twice}
-use Rattle.actor_core.proofs.PollsRefused.{first, its_poll, script, two_notes}
+use Rattle.actor_core.proofs.PollsRefused.{first, its_poll, owed_first, owed_so, two_notes}
 
 -- what holds of each note of a journal holds of those before the latest ones
 behind : (P : Note ℕ → Journal ℕ → Type 0) (later : List (Note ℕ)) (before : Journal ℕ) → EachNote P (later ++ before) → EachNote P before
@@ -27,52 +27,9 @@ refused_first count unshut owed =
 -- the poll that is refused behind an accepted order, and the one before it
 after_the_last : AreOwed 1 (writes.Yield job 5 ∷ writes.Resume job ∷ writes.Pick 0 5 ∷ accepted ++ begun)
 after_the_last = (
-  record {
-    queue = 0;
-    sent = script submits_twice;
-    task = refl;
-    poll = record {
-      calls = Submit 1 (Job 0 small_job) (Err (refused.Closed (Job 0 small_job) 1)) ∷ [];
-      told = Some 5;
-      was_started = true;
-      earlier = writes.Pick 0 5 ∷ accepted ++ begun;
-      due = inl refl;
-      stands = refl;
-      right = ((refl, refl, refl), tt);
-      owed = (record { answer = Err (refused.Closed (Job 0 small_job) 1); are = refl }, refl, refl);
-      answered = tt;
-      timed = refl;
-    };
-  },
-  (
-    tt,
-    (
-      tt,
-      (
-        record {
-          queue = 0;
-          sent = script submits_twice;
-          task = refl;
-          poll = record {
-            calls = Submit 1 (Job 0 small_job) (Ok (sent 1)) ∷ Detach (sent 1) (Ok tt) ∷ [];
-            told = Some 5;
-            was_started = false;
-            earlier = writes.Pick 0 0 ∷ first;
-            due = inl refl;
-            stands = refl;
-            right = (
-              (record { sender = refl; receiver = omega arith; next = refl; in_range = omega arith; credit = omega arith; spelled = omega arith }, refl, tt),
-              (record { order = Job 0 tt; accepted = refl; kept = refl }, tt),
-            );
-            owed = (record { answer = Ok (sent 1); are = refl }, refl, refl);
-            answered = tt;
-            timed = refl;
-          };
-        },
-        (tt, (tt, (tt, (tt, (tt, tt))))),
-      ),
-    ),
-  ),
+  owed_so submits_twice (Submit 1 (Job 0 small_job) (Err (refused.Closed (Job 0 small_job) 1)) ∷ []) true (writes.Pick 0 5 ∷ accepted ++ begun) (inl refl) refl
+      ((refl, refl, refl), tt) (record { answer = Err (refused.Closed (Job 0 small_job) 1); are = refl }, refl, refl) tt,
+  (tt, (tt, (owed_first submits_twice tt (record { answer = Ok (sent 1); are = refl }, refl, refl), (tt, (tt, (tt, (tt, (tt, tt)))))))),
 )
 
 pub refusals_counted : RefusalsAreCounted

@@ -26,26 +26,18 @@ done_last (poll.Done told other ∷ rest) ends zero time value at = omega (arith
 done_last (poll.Done told other ∷ rest) ends (suc place) time value at =
     absurd (let none : None ≡ Some (poll.Done time value) = ap (λ rest. slice_get rest place) (sym ends) ∙ at in cc)
 
+some_left : (rest : List Poll) → EndsDone rest → length rest ≡ 0 → ⊥
+some_left [] ends none = ends
+some_left (first ∷ rest) ends none = omega (arith, none)
+
 -- the last one is done
 last_done : (polls : List Poll) → EndsDone polls → (place : ℕ) (word : Poll) → slice_get polls place ≡ Some word → place + 1 ≡ length polls → (time : ℕ) × (value : ℕ) × (word ≡ poll.Done time value)
 last_done [] ends place word at last = absurd ends
 last_done (poll.Yield told ∷ rest) ends zero word at last = absurd (some_left rest ends (omega (arith, last)))
-  where
-    some_left : (rest : List Poll) → EndsDone rest → length rest ≡ 0 → ⊥
-    some_left [] ends none = ends
-    some_left (first ∷ rest) ends none = omega (arith, none)
 last_done (poll.Yield told ∷ rest) ends (suc place) word at last = last_done rest ends place word at (omega (arith, last))
 last_done (poll.Submit told core queue ∷ rest) ends zero word at last = absurd (some_left rest ends (omega (arith, last)))
-  where
-    some_left : (rest : List Poll) → EndsDone rest → length rest ≡ 0 → ⊥
-    some_left [] ends none = ends
-    some_left (first ∷ rest) ends none = omega (arith, none)
 last_done (poll.Submit told core queue ∷ rest) ends (suc place) word at last = last_done rest ends place word at (omega (arith, last))
 last_done (poll.Park told ∷ rest) ends zero word at last = absurd (some_left rest ends (omega (arith, last)))
-  where
-    some_left : (rest : List Poll) → EndsDone rest → length rest ≡ 0 → ⊥
-    some_left [] ends none = ends
-    some_left (first ∷ rest) ends none = omega (arith, none)
 last_done (poll.Park told ∷ rest) ends (suc place) word at last = last_done rest ends place word at (omega (arith, last))
 last_done (poll.Done told value ∷ rest) ends zero word at last = (told, value, let same : Some (poll.Done told value) ≡ Some word = at in cc)
 last_done (poll.Done told value ∷ rest) ends (suc place) word at last = absurd (omega (arith, ap length ends, last))

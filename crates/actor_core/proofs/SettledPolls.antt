@@ -110,12 +110,7 @@ module _ {J T : Type 0} {meaning : Meaning J T} (laws : IsMeaning meaning)
   -- the job wants another poll: it has its task still, with one more poll
   module _ (same_task : meaning.same out.job ran.job) (later : OwesOn meaning out.job ran.job) (settled : Settled T) where
     task_now : Task settled out.queue out.name ran.job
-    task_now = record {
-      sent = its_task.sent;
-      task = its_task.task;
-      same_task = laws.same_task.along its_task.sent out.job ran.job its_task.same_task same_task;
-      owes = subst (λ count. OwesAfter meaning its_task.sent count ran.job) (sym one_more) owes_on;
-    }
+    task_now = record { sent = its_task.sent; task = its_task.task; same_task = laws.same_task.along its_task.sent out.job ran.job its_task.same_task same_task; owes = subst (λ count. OwesAfter meaning its_task.sent count ran.job) (sym one_more) owes_on }
       where
         one_more : polls_made out.name (longer settled) ≡ polls_made out.name old.journal.notes + 1
         one_more = polls_now settled out.name ∙ ap (λ test. polls_made out.name old.journal.notes + number_if test) (same_as_itself out.name)
@@ -190,18 +185,7 @@ module _ {J T : Type 0} {meaning : Meaning J T} (laws : IsMeaning meaning)
     pub settled_did : HasDone meaning old core everyone (given_settled out.name settled) 1 (λ old new. Settles meaning old ran spent settled new) notes
     settled_did = done_so its_step.0
         (by_step ran.step (subst (λ job. IfUndone ran.step (meaning.same job ran.job)) (sym its_job) polled.same_task) (subst (λ job. IfUndone ran.step (OwesOn meaning job ran.job)) (sym its_job) polled.later) settled settles)
-        (omega arith) (record {
-          out = out;
-          was_out = was_out;
-          sent = its_task.sent;
-          task = its_task.task;
-          owed = owed;
-          answered = answered;
-          tells = its_step.2;
-          journal = refl;
-          out_now = its_step.1;
-          took = refl;
-        })
+        (omega arith) (record { out = out; was_out = was_out; sent = its_task.sent; task = its_task.task; owed = owed; answered = answered; tells = its_step.2; journal = refl; out_now = its_step.1; took = refl })
       where
         by_step : (step : Step T) → IfUndone step (meaning.same out.job ran.job) → IfUndone step (OwesOn meaning out.job ran.job) → (settled : Settled T) → CoreSettles old.core out ran spent step settled core notes → SettlesIt settled core
         by_step (steps.Done value) task later (Finished answer) settles = subst (SettlesIt (Finished answer)) (sym settles.1) (ended answer)

@@ -9,7 +9,7 @@ use Rattle.actor_core.specs.BadPolls.{begun, job, open_links, ordered, terms}
 use Rattle.actor_core.specs.BadTurns.{AreOwedIn, FurtherPollsAreCounted, polled_twice, yields_thrice}
 use Rattle.actor_core.specs.OwedPolls.{IsOwedPoll}
 use Rattle.actor_core.proofs.OneBeginning.{poll_behind}
-use Rattle.actor_core.proofs.PollsRefused.{first, script}
+use Rattle.actor_core.proofs.PollsRefused.{first, owed_so}
 
 -- the queue of which a resumed poll is
 its_turn : (burst : ℕ) (earlier : Journal ℕ) → IsOwedPoll script_meaning (record terms { burst = burst }) open_links (ordered yields_thrice) job 5 steps.Yield (writes.Resume job ∷ earlier) →
@@ -28,46 +28,8 @@ no_poll queue (inr goes) = let left = goes.poll_left in omega (arith, left)
 
 in_its_turn : AreOwedIn 2 polled_twice
 in_its_turn = (
-  record {
-    queue = 0;
-    sent = script yields_thrice;
-    task = refl;
-    poll = record {
-      calls = [];
-      told = Some 5;
-      was_started = true;
-      earlier = writes.Yield job 5 ∷ begun;
-      due = inr (record { in_turn = refl; nobody_out = refl; poll_left = omega arith });
-      stands = refl;
-      right = tt;
-      owed = (refl, refl, refl);
-      answered = tt;
-      timed = refl;
-    };
-  },
-  (
-    tt,
-    (
-      record {
-        queue = 0;
-        sent = script yields_thrice;
-        task = refl;
-        poll = record {
-          calls = [];
-          told = Some 5;
-          was_started = false;
-          earlier = writes.Pick 0 0 ∷ first;
-          due = inl refl;
-          stands = refl;
-          right = tt;
-          owed = (refl, refl, refl);
-          answered = tt;
-          timed = refl;
-        };
-      },
-      (tt, (tt, (tt, tt))),
-    ),
-  ),
+  owed_so yields_thrice [] true (writes.Yield job 5 ∷ begun) (inr (record { in_turn = refl; nobody_out = refl; poll_left = omega arith })) refl tt (refl, refl, refl) tt,
+  (tt, (owed_so yields_thrice [] false (writes.Pick 0 0 ∷ first) (inl refl) refl tt (refl, refl, refl) tt, (tt, (tt, (tt, tt))))),
 )
 
 pub further_polls_counted : FurtherPollsAreCounted

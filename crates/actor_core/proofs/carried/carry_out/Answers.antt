@@ -13,24 +13,14 @@ module _ {J : Type 0} (core new : CoreView J) (envelope : Envelope J) {queue : â
 
 pub write-requires : goal.write-requires
 write-requires g c =
-    let may = c.requires.may_note _ _ _ (of_order c.args.core.now c.deliver_job.new.self c.args.envelope c.in-Job.is c.in-Took.is c.deliver_job.ensures.delivers) in
-    record { room = may.room; written = may.written; sent = may.sent }
+    assumption (c.requires.may_note _ _ _ (of_order c.args.core.now c.deliver_job.new.self c.args.envelope c.in-Job.is c.in-Took.is c.deliver_job.ensures.delivers))
 
 pub write-requires-in-Back : goal.write-requires-in-Back
 write-requires-in-Back g c =
-    let may = c.requires.may_note _ _ _ (of_order c.args.core.now c.deliver_job.new.self c.args.envelope c.in-Job.is c.in-Back.is c.deliver_job.ensures.delivers) in
-    record { room = may.room; written = may.written; sent = may.sent }
+    assumption (c.requires.may_note _ _ _ (of_order c.args.core.now c.deliver_job.new.self c.args.envelope c.in-Job.is c.in-Back.is c.deliver_job.ensures.delivers))
 
 pub returns-in-Took : goal.returns-in-Took
-returns-in-Took g c = record {
-  notes = _;
-  delivers = of_order c.args.core.now c.deliver_job.new.self c.args.envelope c.in-Job.is c.in-Took.is c.deliver_job.ensures.delivers;
-  written = c.write.ensures;
-}
+returns-in-Took g c = record { notes = _; delivers = of_order c.args.core.now c.deliver_job.new.self c.args.envelope c.in-Job.is c.in-Took.is c.deliver_job.ensures.delivers; written = c.write.ensures }
 
 pub returns-in-Back : goal.returns-in-Back
-returns-in-Back g c = record {
-  notes = _;
-  delivers = of_order c.args.core.now c.deliver_job.new.self c.args.envelope c.in-Job.is c.in-Back.is c.deliver_job.ensures.delivers;
-  written = c.write-in-Back.ensures;
-}
+returns-in-Back g c = record { notes = _; delivers = of_order c.args.core.now c.deliver_job.new.self c.args.envelope c.in-Job.is c.in-Back.is c.deliver_job.ensures.delivers; written = c.write-in-Back.ensures }

@@ -6,20 +6,11 @@ post_first-settled-requires-clause-room g c = omega (arith, c.requires.room)
 
 pub give_done_on-requires : goal.give_done_on-requires
 give_done_on-requires g c =
-    let posts = c.post_first-settled.ensures.posts in
-    record { known = posts.known; may_answer = posts.noted.may_answer; owing = posts.owing }
+    assumption (c.post_first-settled.ensures.posts)
 
 pub returns-clause-begins : goal.returns-clause-begins
 returns-clause-begins g c = record {
-  polls = record {
-    queue = c.args.next.now.queue;
-    started = c.args.next.now.started;
-    settled = c.post_first-settled.result;
-    between = c.post_first-settled.new.around;
-    posts = c.post_first-settled.ensures.posts;
-    gives = c.give_done_on.ensures.gives;
-    around = c.give_done_on.ensures.around;
-  };
+  polls = record { queue = _; started = _; settled = _; between = _; posts = c.post_first-settled.ensures.posts; gives = c.give_done_on.ensures.gives; around = c.give_done_on.ensures.around };
   gate = c.ask-leave.ensures.asked;
 }
 

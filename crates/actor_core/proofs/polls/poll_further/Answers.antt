@@ -9,20 +9,11 @@ post_further-settled-requires-clause-room g c =
 
 pub give_done_on-requires : goal.give_done_on-requires
 give_done_on-requires g c =
-    let posts = c.post_further-settled.ensures.posts in
-    record { known = posts.known; may_answer = posts.noted.may_answer; owing = posts.owing }
+    assumption (c.post_further-settled.ensures.posts)
 
 pub returns-clause-further : goal.returns-clause-further
 returns-clause-further g c = record {
-  polls = record {
-    queue = c.args.next.now.queue;
-    started = c.args.next.now.started;
-    settled = c.post_further-settled.result;
-    between = c.post_further-settled.new.around;
-    posts = c.post_further-settled.ensures.posts;
-    gives = c.give_done_on.ensures.gives;
-    around = c.give_done_on.ensures.around;
-  };
+  polls = record { queue = _; started = _; settled = _; between = _; posts = c.post_further-settled.ensures.posts; gives = c.give_done_on.ensures.gives; around = c.give_done_on.ensures.around };
   gate = c.ask-leave.ensures.asked;
 }
 

@@ -12,13 +12,7 @@ pub returns-clause-ends : goal.returns-clause-ends
 returns-clause-ends g c =
     let did = c.end_turn.ensures in
     let stays : StaysPut c.args.core.now c.end_turn.new.self = record { seat = did.seat; outs = did.outs; lanes = did.lanes } in
-    record {
-      time = c.end_turn.result;
-      ends = did.ends;
-      stays = stays;
-      keeps = did.ins;
-      after = record { recorded = did.sound; free = did.ends.out; beside = kept_around c.requires.rest.beside _ did.ins stays };
-    }
+    record { time = c.end_turn.result; ends = did.ends; stays = stays; keeps = did.ins; after = record { recorded = did.sound; free = did.ends.out; beside = kept_around c.requires.rest.beside _ did.ins stays } }
 
 pub returns-clause-no_turn : goal.returns-clause-no_turn
 returns-clause-no_turn g c = none_behind_end c.end_turn.ensures.ends

@@ -55,22 +55,12 @@ pub hand_back-requires-clause-room : goal.hand_back-requires-clause-room
 hand_back-requires-clause-room g c = c.requires.room.back
 
 pub returns-in-Ok-Back : goal.returns-in-Ok-Back
-returns-in-Ok-Back g c = record {
-  makes = (c.hand_back.ensures.back, (refl, refl));
-  rest = c.hand_back.ensures.back.rests;
-  no_turn = c.hand_back.ensures.no_turn;
-  owed = c.hand_back.ensures.owed;
-}
+returns-in-Ok-Back g c = record { makes = (c.hand_back.ensures.back, (refl, refl)); rest = c.hand_back.ensures.back.rests; no_turn = c.hand_back.ensures.no_turn; owed = c.hand_back.ensures.owed }
 
 pub returns-in-Ok-Idle : goal.returns-in-Ok-Idle
 returns-in-Ok-Idle g c =
     let told = subst (λ (one : Ahead). TellsAhead c.args.core.now.core (Ok one)) c.in-Ok-Idle.field-0-is c.in-Ok-Idle.ensures in
-    record {
-      makes = (idle c.args.core.now c.requires.rest.recorded told.0 told.2, refl);
-      rest = c.requires.rest;
-      no_turn = c.requires.no_turn;
-      owed = λ owed. owed;
-    }
+    record { makes = (idle c.args.core.now c.requires.rest.recorded told.0 told.2, refl); rest = c.requires.rest; no_turn = c.requires.no_turn; owed = λ owed. owed }
 
 pub returns-in-Err-Spent : goal.returns-in-Err-Spent
 returns-in-Err-Spent g c =

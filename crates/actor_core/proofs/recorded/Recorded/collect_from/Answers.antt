@@ -16,16 +16,12 @@ pub returns : goal.returns
 returns g c =
     let silent = collected_silent c.self.inside.said c.collect_from.new.self c.args.core c.collect_from.result c.collect_from.ensures.collects in
     let now = has_said c.self.inside.core c.self.inside.took.items c.self.inside.said c.self.invariant c.self.view_is c.collect_from.ensures.stays.rest c.collect_from.ensures.stays.written silent in
-    record {
-      collects = said_so c.self.inside.core c.self.inside.took.items c.self.inside.said c.self.invariant c.self.view_is now.is_its (λ old new. CollectsFrom c.args.core old c.collect_from.result new) c.collect_from.ensures.collects;
-      books = said_so c.self.inside.core c.self.inside.took.items c.self.inside.said c.self.invariant c.self.view_is now.is_its (λ old new. booked new ≡ booked old) c.collect_from.ensures.books;
-      few = said_so c.self.inside.core c.self.inside.took.items c.self.inside.said c.self.invariant c.self.view_is now.is_its (λ old new. length new.journal.notes ≤ length old.journal.notes + old.cap) c.collect_from.ensures.few;
-      end = c.collect_from.ensures.end;
-      stays = said_so c.self.inside.core c.self.inside.took.items c.self.inside.said c.self.invariant c.self.view_is now.is_its
-          (λ old new. StaysBeside (Fits g.J.Task.meaning) c.args.core old new (g.O.OutEnd.out c.collect_from.new.end) (g.O.OutEnd.credited c.collect_from.new.end)) c.collect_from.ensures.stays;
-      rest = now.rest;
-      ins = now.ins;
-      seat = now.seat;
-      sound = now.sound;
-      untouched = c.collect_from.ensures.untouched;
-    }
+    assumption (
+      said_so c.self.inside.core c.self.inside.took.items c.self.inside.said c.self.invariant c.self.view_is now.is_its (λ old new. CollectsFrom c.args.core old c.collect_from.result new) c.collect_from.ensures.collects,
+      said_so c.self.inside.core c.self.inside.took.items c.self.inside.said c.self.invariant c.self.view_is now.is_its (λ old new. booked new ≡ booked old) c.collect_from.ensures.books,
+      said_so c.self.inside.core c.self.inside.took.items c.self.inside.said c.self.invariant c.self.view_is now.is_its (λ old new. length new.journal.notes ≤ length old.journal.notes + old.cap) c.collect_from.ensures.few,
+      said_so c.self.inside.core c.self.inside.took.items c.self.inside.said c.self.invariant c.self.view_is now.is_its
+          (λ old new. StaysBeside (Fits g.J.Task.meaning) c.args.core old new (g.O.OutEnd.out c.collect_from.new.end) (g.O.OutEnd.credited c.collect_from.new.end)) c.collect_from.ensures.stays,
+      now,
+      c.collect_from.ensures,
+    )

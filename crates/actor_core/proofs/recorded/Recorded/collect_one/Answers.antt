@@ -16,14 +16,10 @@ pub returns : goal.returns
 returns g c =
     let silent = next_silent c.self.inside.said c.collect_one.new.self c.args.core (g.O.OutEnd.out c.args.end.now) (g.O.OutEnd.out c.collect_one.new.end) c.collect_one.result c.collect_one.ensures.gets in
     let now = has_said c.self.inside.core c.self.inside.took.items c.self.inside.said c.self.invariant c.self.view_is c.collect_one.ensures.stays.rest c.collect_one.ensures.stays.written silent in
-    record {
-      gets = said_so c.self.inside.core c.self.inside.took.items c.self.inside.said c.self.invariant c.self.view_is now.is_its (λ old new. GetsNext c.args.core old new (g.O.OutEnd.out c.args.end.now) (g.O.OutEnd.out c.collect_one.new.end) c.collect_one.result) c.collect_one.ensures.gets;
-      books = said_so c.self.inside.core c.self.inside.took.items c.self.inside.said c.self.invariant c.self.view_is now.is_its (λ old new. booked new ≡ booked old) c.collect_one.ensures.books;
-      stays = said_so c.self.inside.core c.self.inside.took.items c.self.inside.said c.self.invariant c.self.view_is now.is_its
-          (λ old new. StaysBeside (Fits g.J.Task.meaning) c.args.core old new (g.O.OutEnd.out c.collect_one.new.end) (g.O.OutEnd.credited c.collect_one.new.end)) c.collect_one.ensures.stays;
-      rest = now.rest;
-      ins = now.ins;
-      seat = now.seat;
-      sound = now.sound;
-      untouched = c.collect_one.ensures.untouched;
-    }
+    assumption (
+      said_so c.self.inside.core c.self.inside.took.items c.self.inside.said c.self.invariant c.self.view_is now.is_its (λ old new. GetsNext c.args.core old new (g.O.OutEnd.out c.args.end.now) (g.O.OutEnd.out c.collect_one.new.end) c.collect_one.result) c.collect_one.ensures.gets,
+      said_so c.self.inside.core c.self.inside.took.items c.self.inside.said c.self.invariant c.self.view_is now.is_its (λ old new. booked new ≡ booked old) c.collect_one.ensures.books,
+      said_so c.self.inside.core c.self.inside.took.items c.self.inside.said c.self.invariant c.self.view_is now.is_its (λ old new. StaysBeside (Fits g.J.Task.meaning) c.args.core old new (g.O.OutEnd.out c.collect_one.new.end) (g.O.OutEnd.credited c.collect_one.new.end)) c.collect_one.ensures.stays,
+      now,
+      c.collect_one.ensures,
+    )

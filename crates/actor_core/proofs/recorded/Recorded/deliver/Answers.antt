@@ -2,13 +2,7 @@ use Rattle.actor_core.proofs.Names.{IsInOf, ap, subst, ◌∙◌}
 use Rattle.actor_core.proofs.recorded.Recorded.deliver.Goals as goal
 
 pub receive_one-requires-clause-taken : goal.receive_one-requires-clause-taken
-receive_one-requires-clause-taken g c = record {
-  before = g.I.InEnd.inward c.args.end.now;
-  beside = c.requires.beside;
-  takes = c.in-Some.ensures.takes;
-  sound = c.in-Some.ensures.sound;
-  named = c.in-Some.ensures.named;
-}
+receive_one-requires-clause-taken g c = record { before = g.I.InEnd.inward c.args.end.now; beside = c.requires.beside; takes = c.in-Some.ensures.takes; sound = c.in-Some.ensures.sound; named = c.in-Some.ensures.named }
 
 pub returns-in-Some : goal.returns-in-Some
 returns-in-Some g c =

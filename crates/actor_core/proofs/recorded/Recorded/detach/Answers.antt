@@ -16,13 +16,9 @@ pub returns : goal.returns
 returns g c =
     let silent = detached_silent c.self.inside.said c.detach.new.self c.args.ticket c.detach.result c.detach.ensures.detaches in
     let now = has_said c.self.inside.core c.self.inside.took.items c.self.inside.said c.self.invariant c.self.view_is c.detach.ensures.stays.rest c.detach.ensures.stays.written silent in
-    record {
-      detaches = said_so c.self.inside.core c.self.inside.took.items c.self.inside.said c.self.invariant c.self.view_is now.is_its (λ old new. DetachesTicket c.args.ticket old c.detach.result new) c.detach.ensures.detaches;
-      out = c.detach.ensures.out;
-      stays = said_so c.self.inside.core c.self.inside.took.items c.self.inside.said c.self.invariant c.self.view_is now.is_its (λ old new. StaysBeside (Fits g.J.Task.meaning) c.args.ticket.to old new (g.O.OutEnd.out c.detach.new.end) (g.O.OutEnd.credited c.detach.new.end)) c.detach.ensures.stays;
-      rest = now.rest;
-      ins = now.ins;
-      seat = now.seat;
-      sound = now.sound;
-      untouched = c.detach.ensures.untouched;
-    }
+    assumption (
+      said_so c.self.inside.core c.self.inside.took.items c.self.inside.said c.self.invariant c.self.view_is now.is_its (λ old new. DetachesTicket c.args.ticket old c.detach.result new) c.detach.ensures.detaches,
+      said_so c.self.inside.core c.self.inside.took.items c.self.inside.said c.self.invariant c.self.view_is now.is_its (λ old new. StaysBeside (Fits g.J.Task.meaning) c.args.ticket.to old new (g.O.OutEnd.out c.detach.new.end) (g.O.OutEnd.credited c.detach.new.end)) c.detach.ensures.stays,
+      now,
+      c.detach.ensures,
+    )

@@ -1,4 +1,4 @@
-use Rattle.actor_core.proofs.Names.{arith, ◌≡◌, IsSome, None, subst, sym, NothingFollows}
+use Rattle.actor_core.proofs.Names.{ℕ, arith, ◌≡◌, IsSome, None, subst, sym, NothingFollows}
 use Rattle.base_words.specs.Bursts.{queue_in_turn}
 use Rattle.actor_core.proofs.Followed.{asks_end, ended_did}
 use Rattle.actor_core.proofs.QuietSteps.{view_of, quiet_invariant, quiet_now, quiet_noted}
@@ -14,8 +14,7 @@ end_turn-time-requires g c =
 pub write-requires : goal.write-requires
 write-requires g c =
     let did = ended_did (view_of c.self.inside.core c.self.inside.took.items c.self.inside.said) c.self.invariant.0 c.end_turn-time.result.0 c.end_turn-time.new.self c.end_turn-time.result.1.items c.end_turn-time.ensures.ends in
-    let may = quiet_noted c.self.inside.core c.self.inside.took.items c.self.inside.said c.self.invariant c.as_slice.ensures.value did c.self.view_is (omega (arith, c.requires.room)) in
-    record { room = may.room; written = may.written; sent = may.sent }
+    assumption (quiet_noted c.self.inside.core c.self.inside.took.items c.self.inside.said c.self.invariant c.as_slice.ensures.value did c.self.view_is (omega (arith, c.requires.room)))
 
 pub invariant_of-self : goal.invariant_of-self
 invariant_of-self g c =
@@ -26,11 +25,4 @@ pub returns : goal.returns
 returns g c =
     let did = ended_did (view_of c.self.inside.core c.self.inside.took.items c.self.inside.said) c.self.invariant.0 c.end_turn-time.result.0 c.end_turn-time.new.self c.end_turn-time.result.1.items c.end_turn-time.ensures.ends in
     let now = quiet_now c.self.inside.core c.self.inside.took.items c.self.inside.said c.self.invariant c.as_slice.ensures.value did c.write.ensures c.self.view_is in
-    record {
-      ends = now.does_so;
-      ins = λ sender. now.ins sender tt;
-      outs = now.outs;
-      seat = now.seat;
-      lanes = now.lanes;
-      sound = now.sound;
-    }
+    assumption (now, λ (sender : ℕ). now.ins sender tt)

@@ -14,10 +14,9 @@ pub write-requires : goal.write-requires
 write-requires g c =
     let next = c.args.next.now in
     let ahead = subst (λ view. IsAheadInTurn view.core next.queue next.vr next.name next.started next.woken) (sym c.self.view_is) c.requires.ahead in
-    let may = quiet_noted c.self.inside.core c.self.inside.took.items c.self.inside.said c.self.invariant c.followed_notes-begun.ensures
+    assumption (quiet_noted c.self.inside.core c.self.inside.took.items c.self.inside.said c.self.invariant c.followed_notes-begun.ensures
     (follow_ahead c.self.inside.core c.self.inside.took.items c.self.inside.said c.self.invariant next.queue next.vr next.name next.started next.woken ahead).2
-    c.self.view_is (omega (arith, c.requires.room)) in
-    record { room = may.room; written = may.written; sent = may.sent }
+    c.self.view_is (omega (arith, c.requires.room)))
 
 pub further_lent-step-requires-clause-outs : goal.further_lent-step-requires-clause-outs
 further_lent-step-requires-clause-outs g c =

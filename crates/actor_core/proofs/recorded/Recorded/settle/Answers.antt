@@ -14,14 +14,4 @@ returns g c =
     let beside = (settled_given c.args.self.now c.settle_out-settled.new.self c.args.ran c.args.spent c.settle_out-settled.result settled.settles settled.owes settled.sound
     c.args.name c.requires.named (g.I.InEnd.inward c.args.end.now) c.requires.beside).1 (g.I.InEnd.inward c.give_if.new.end) gives in
     let others = others_settled c.args.self.now c.settle_out-settled.new.self c.args.ran c.args.spent c.settle_out-settled.result settled.settles settled.owes settled.sound c.args.name c.requires.named in
-    record {
-      settles = settled.settles;
-      gives = gives;
-      beside = beside;
-      others = others;
-      outs = settled.outs;
-      seat = settled.seat;
-      lanes = settled.lanes;
-      sound = settled.sound;
-      untouched = c.give_if.ensures.untouched;
-    }
+    assumption (settled, c.give_if.ensures)

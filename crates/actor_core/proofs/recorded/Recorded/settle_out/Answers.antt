@@ -9,8 +9,7 @@ write-requires g c =
     let out = c.settle-settled.ensures.settles in
     let its_job = subst (λ who. IsOut who c.args.ran.before) out.1 (subst (λ view. IsOut view.core.out c.args.ran.before) (sym c.self.view_is) c.requires.out) in
     let did = settled_did g.met.J.Task.laws (view_of c.self.inside.core c.self.inside.took.items c.self.inside.said) c.self.invariant.0 out.0 out.1 c.settle-settled.new.self c.args.ran its_job c.requires.polled c.args.spent c.settle-settled.result.0 c.settle-settled.result.1.items out.2 in
-    let may = quiet_noted c.self.inside.core c.self.inside.took.items c.self.inside.said c.self.invariant c.as_slice.ensures.value did c.self.view_is (omega (arith, c.requires.room)) in
-    record { room = may.room; written = may.written; sent = may.sent }
+    assumption (quiet_noted c.self.inside.core c.self.inside.took.items c.self.inside.said c.self.invariant c.as_slice.ensures.value did c.self.view_is (omega (arith, c.requires.room)))
 
 pub invariant_of-self : goal.invariant_of-self
 invariant_of-self g c =
@@ -27,14 +26,7 @@ returns g c =
     let now = quiet_now c.self.inside.core c.self.inside.took.items c.self.inside.said c.self.invariant c.as_slice.ensures.value did c.write.ensures c.self.view_is in
     let owes = seen_so c.self.inside.core c.self.inside.took.items c.self.inside.said c.self.invariant c.as_slice.ensures.value did c.write.ensures c.self.view_is (λ old new. OwesSettled old c.settle-settled.result.0 new)
     (owes_settled (view_of c.self.inside.core c.self.inside.took.items c.self.inside.said) _ out.0 out.1 c.settle-settled.result.0 (λ sender. ins_step (view_of c.self.inside.core c.self.inside.took.items c.self.inside.said) c.self.invariant.0 _ _ did.step sender tt)) in
-    record {
-      settles = now.does_so;
-      owes = owes;
-      outs = now.outs;
-      seat = now.seat;
-      lanes = now.lanes;
-      sound = now.sound;
-    }
+    assumption now
 
 pub settle-settled-requires : goal.settle-settled-requires
 settle-settled-requires g c =

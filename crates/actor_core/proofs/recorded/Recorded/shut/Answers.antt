@@ -12,8 +12,7 @@ write-requires g c =
     let did = shut_did (view_of c.self.inside.core c.self.inside.took.items c.self.inside.said)
     _ c.self.view_is c.args.from c.shut-count.result _ _ c.requires.beside c.shut-count.ensures.shuts c.shut-count.ensures.sound c.requires.closed c.requires.untold
     c.gate_shut-told.new.self c.gate_shut-told.result.items c.gate_shut-told.ensures.shuts c.self.invariant.0 in
-    let may = quiet_noted c.self.inside.core c.self.inside.took.items c.self.inside.said c.self.invariant c.as_slice.ensures.value did c.self.view_is (omega (arith, c.requires.room)) in
-    record { room = may.room; written = may.written; sent = may.sent }
+    assumption (quiet_noted c.self.inside.core c.self.inside.took.items c.self.inside.said c.self.invariant c.as_slice.ensures.value did c.self.view_is (omega (arith, c.requires.room)))
 
 pub invariant_of-self : goal.invariant_of-self
 invariant_of-self g c =
@@ -32,14 +31,4 @@ returns g c =
     (beside_shut (view_of c.self.inside.core c.self.inside.took.items c.self.inside.said)
     _ c.self.view_is c.args.from c.shut-count.result _ _ c.requires.beside c.shut-count.ensures.shuts c.shut-count.ensures.sound c.requires.closed c.requires.untold
     c.gate_shut-told.new.self c.gate_shut-told.result.items c.gate_shut-told.ensures.shuts) in
-    record {
-      shuts = c.shut-count.ensures.shuts;
-      tells = now.does_so;
-      beside = beside;
-      others = now.ins;
-      outs = now.outs;
-      seat = now.seat;
-      lanes = now.lanes;
-      sound = now.sound;
-      untouched = c.shut-count.ensures.untouched;
-    }
+    assumption (now, c.shut-count.ensures)

@@ -16,14 +16,9 @@ pub returns : goal.returns
 returns g c =
     let silent = submitted_silent c.self.inside.said c.submit.new.self c.args.to c.args.order c.submit.result c.submit.ensures.submits in
     let now = has_said c.self.inside.core c.self.inside.took.items c.self.inside.said c.self.invariant c.self.view_is c.submit.ensures.stays.rest c.submit.ensures.stays.written silent in
-    record {
-      submits = said_so c.self.inside.core c.self.inside.took.items c.self.inside.said c.self.invariant c.self.view_is now.is_its (λ old new. Submits c.args.to c.args.order old c.submit.result new) c.submit.ensures.submits;
-      sends = c.submit.ensures.sends;
-      credited = c.submit.ensures.credited;
-      stays = said_so c.self.inside.core c.self.inside.took.items c.self.inside.said c.self.invariant c.self.view_is now.is_its (λ old new. StaysBeside (Fits g.J.Task.meaning) c.args.to old new (g.O.OutEnd.out c.submit.new.end) (g.O.OutEnd.credited c.submit.new.end)) c.submit.ensures.stays;
-      rest = now.rest;
-      ins = now.ins;
-      seat = now.seat;
-      sound = now.sound;
-      untouched = c.submit.ensures.untouched;
-    }
+    assumption (
+      said_so c.self.inside.core c.self.inside.took.items c.self.inside.said c.self.invariant c.self.view_is now.is_its (λ old new. Submits c.args.to c.args.order old c.submit.result new) c.submit.ensures.submits,
+      said_so c.self.inside.core c.self.inside.took.items c.self.inside.said c.self.invariant c.self.view_is now.is_its (λ old new. StaysBeside (Fits g.J.Task.meaning) c.args.to old new (g.O.OutEnd.out c.submit.new.end) (g.O.OutEnd.credited c.submit.new.end)) c.submit.ensures.stays,
+      now,
+      c.submit.ensures,
+    )

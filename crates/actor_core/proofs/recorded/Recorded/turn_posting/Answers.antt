@@ -13,10 +13,9 @@ write-requires g c =
     let next = c.args.next.now in
     let left : turns c.self.inside.said.journal.notes < most_turns = omega (arith, c.requires.ahead.left, c.self.invariant.0.kept.agrees.turns, ap (λ view. view.core.turns) c.self.view_is) in
     let ahead = subst (λ view. IsAhead view.core next.queue next.vr next.name next.started next.woken) (sym c.self.view_is) c.requires.ahead in
-    let may = quiet_noted c.self.inside.core c.self.inside.took.items c.self.inside.said c.self.invariant c.picked_notes-picked.ensures
+    assumption (quiet_noted c.self.inside.core c.self.inside.took.items c.self.inside.said c.self.invariant c.picked_notes-picked.ensures
     (pick_ahead c.self.inside.core c.self.inside.took.items c.self.inside.said c.self.invariant next.queue next.vr next.name next.started left next.woken ahead).2
-    c.self.view_is (omega (arith, c.requires.room)) in
-    record { room = may.room; written = may.written; sent = may.sent }
+    c.self.view_is (omega (arith, c.requires.room)))
 
 pub turn_lent-step-requires-clause-outs : goal.turn_lent-step-requires-clause-outs
 turn_lent-step-requires-clause-outs g c =
