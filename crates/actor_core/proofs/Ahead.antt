@@ -3,7 +3,7 @@ use Rattle.actor_core.proofs.Names.{◌≡◌, ℕ, ◌-◌, ◌^◌, Bool, true
 use Rattle.actor_core.proofs.Names.{Meaning, waiting_of, Turn, Start, Resume, Idle, PickError, Busy, CoreView, runtime_of, TakesOut, TellsAhead, some_front, IsJobOut, RecordedView, IsRecorded, terms_at, IsBack, ◌+◌, ◌<◌, ◌≤◌, ◌++◌, length, add-zero}
 use Rattle.actor_core.proofs.Names.{◌==◌, Some, is_some, same_Some, most_turns, Pick, Job, Reason, Journal, is_told, number_if, length-with_last_if, if_from, name_ended, given_outcomes, held_count, inside_count, HandsBack, polls_made, poll_note}
 use Rattle.actor_core.proofs.Names.{HasTask, note_taken, sum_upto, given_count, IsPick, IsHandBack, owed_back, known_of, among, same_as_itself, without_job, option_map, QueuesView, Line, Marks, none-some, JobOut, CorePicks, names_of, Returned}
-use Rattle.actor_core.proofs.Names.{Picks}
+use Rattle.actor_core.proofs.Names.{Inward, IsInOf, Picks}
 use Rattle.core_core.specs.declared.turn.Ahead.{Ahead}
 use Rattle.core_core.specs.declared.turn.Ahead.TheVariants as ahead
 use Rattle.core_core.specs.declared.turn.Turn.TheVariants.{Back}
@@ -148,25 +148,17 @@ module _ {J T : Type 0} {meaning : Meaning J T}
 
     handed : (reason : Reason) → core_says.return_reason queue old.core ≡ Some reason →
         IsQuietStep old (returned_view old.core queue queues) (back reason) meaning everyone (λ sender. if_from sender name (name, outcomes.Returned reason))
-    handed reason returns = record {
-      kept = kept-returned (terms_at old) old.core name queue marks job queues notes recorded.kept front next reason returns left_now;
-      number = refl;
-      cores = refl;
-      burst = refl;
-      room = front.line.same_room;
-      quiet = assumption;
-      ungiven = λ sender inward is.
-          let task = its_task old recorded name queue marks job queues front (back reason) (unpolled_back reason) in
-          ungiven_if old sender inward is name (Job queue task.sent) task.task
-          (not_given (note_taken old.took) name queue (ap (option_map without_job) task.task) sender notes recorded.as_sent going_on) (outcomes.Returned reason);
-      fewer =
-          let given_more : sum_upto (given_count (back reason ++ notes)) old.core.cores ≤ sum_upto (given_count notes) old.core.cores + 1 =
-          sum_upto-at_most_one (given_count notes) (given_count (back reason ++ notes)) name.from (λ from. length-with_last_if (given_outcomes from notes) _ (name.from == from)) old.core.cores in
-          let now : inside_count (returned_view old.core queue queues) ≡ held_count queues + 0 = ap (λ out. held_count queues + number_if (is_some out)) front.free in
-          omega (arith, given_more, now, one_less);
-      tasks = still_tasks old recorded name queue marks job queues front (back reason) (unpolled_back reason) (returned_view old.core queue queues) refl;
-      out = λ out at. absurd (none-some out (sym front.free ∙ at));
-    }
+    handed reason returns =
+        let task = its_task old recorded name queue marks job queues front (back reason) (unpolled_back reason) in
+        let ungiven = λ (sender : ℕ) (inward : Inward J T) (is : IsInOf sender old inward). ungiven_if old sender inward is name (Job queue task.sent) task.task
+        (not_given (note_taken old.took) name queue (ap (option_map without_job) task.task) sender notes recorded.as_sent going_on) (outcomes.Returned reason) in
+        let given_more : sum_upto (given_count (back reason ++ notes)) old.core.cores ≤ sum_upto (given_count notes) old.core.cores + 1 =
+        sum_upto-at_most_one (given_count notes) (given_count (back reason ++ notes)) name.from (λ from. length-with_last_if (given_outcomes from notes) _ (name.from == from)) old.core.cores in
+        let now : inside_count (returned_view old.core queue queues) ≡ held_count queues + 0 = ap (λ out. held_count queues + number_if (is_some out)) front.free in
+        let fewer : inside_count (returned_view old.core queue queues) + sum_upto (given_count (back reason ++ notes)) old.core.cores ≤ inside_count old.core + sum_upto (given_count notes) old.core.cores = omega (arith, given_more, now, one_less) in
+        let out : (job : JobOut J) → old.core.out ≡ Some job → HasTask meaning old.took (back reason ++ notes) job.queue job.name job.job = λ out at. absurd (none-some out (sym front.free ∙ at)) in
+        let kept_now = kept-returned (terms_at old) old.core name queue marks job queues notes recorded.kept front next reason returns left_now in
+        assumption (front.line.same_room, still_tasks old recorded name queue marks job queues front (back reason) (unpolled_back reason) (returned_view old.core queue queues) refl)
 
     handed_is : (reason : Reason) → core_says.return_reason queue old.core ≡ Some reason → IsHandBack meaning old name reason (Job queue job) (stepped old (returned_view old.core queue queues) (back reason))
     handed_is reason returns =
