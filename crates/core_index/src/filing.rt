@@ -38,6 +38,7 @@ pub fn file<A: Allocator>(
 }
 
 /// A key that no job has any more leaves its bucket.
+#[inline(always)]
 pub fn unfile<A: Allocator>(
     rows: &mut SealedVec<Row, A>,
     buckets: &mut SealedVec<Bucket, A>,

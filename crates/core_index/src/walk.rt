@@ -27,6 +27,7 @@ pub fn look<A: Allocator>(rows: &SealedVec<Row, A>, bucket: Bucket, name: &JobId
 }
 
 /// The key right before this one, which is in the bucket but isn't its head.
+#[inline(never)]
 pub fn before<A: Allocator>(rows: &SealedVec<Row, A>, bucket: Bucket, key: usize) -> usize
     requires there { copies key (keys_in rows.now.items bucket) ≡ 1 }
     requires behind { bucket.head ≢ key }

@@ -58,7 +58,6 @@ impl Hosted {
     }
 
     /// Delivers an order of the host.
-    #[inline(always)]
     pub(crate) fn hand_in(&mut self, order: Order<HostJob>) -> Delivered<HostJob>
         requires room { inside_count self.old < self.old.queues.room }
         requires left { delivered_of 1 self.old < 2 ^ 64 - 1 }

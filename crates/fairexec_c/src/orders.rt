@@ -16,7 +16,6 @@ use host_core::HostJob;
 
 impl Hosted {
     /// Hands a job to a queue.
-    #[inline(always)]
     pub fn submit(&mut self, queue: u32, handle: u64) -> Code
         ensures { Submits self.old queue handle result self.new }
     {
