@@ -46,7 +46,7 @@ turn_front-step-requires-clause-ready g c =
     let at = (goal.at.turn_front-step-requires-clause-ready g c).After-len-count in
     let queue = c.args.next.now.queue in
     front_ready g.J.Task.meaning (waiting_of queue (queues_alone c.self.inside.queues))
-        (first_waits (old_of g at) c.self.inside.ready.keys (key_of g at) (first_of g at).later (first_of g at).are c.self.invariant.listed (none_held g at)) (c.self.invariant.pollable.at queue)
+    (first_waits (old_of g at) c.self.inside.ready.keys (key_of g at) (first_of g at).later (first_of g at).are c.self.invariant.listed (none_held g at)) (c.self.invariant.pollable.at queue)
 
 pub relist_least-requires-clause-out : goal.relist_least-requires-clause-out
 relist_least-requires-clause-out g c =
