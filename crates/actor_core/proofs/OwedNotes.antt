@@ -71,7 +71,8 @@ module _ {J T : Type 0} (terms : Terms) (seen now : Seen J) (more : SeesNoLess s
     -- a poll stays one of its job
     pub poll_stays : (queue : ℕ) (sent : J) (name : JobId) (time : ℕ) (step : Step T) (before : Journal T) →
         IsPollOf meaning terms seen queue sent name time step before → IsPollOf meaning terms now queue sent name time step before
-    poll_stays queue sent name time step before poll = record { calls = poll.calls; told = poll.told; was_started = poll.was_started; earlier = poll.earlier; due = poll.due; stands = poll.stands; right = rights_stay poll.calls _ poll.right; owed = poll.owed; answered = poll.answered; timed = poll.timed }
+    poll_stays queue sent name time step before poll =
+        record { calls = poll.calls; told = poll.told; was_started = poll.was_started; earlier = poll.earlier; due = poll.due; stands = poll.stands; right = rights_stay poll.calls _ poll.right; owed = poll.owed; answered = poll.answered; timed = poll.timed }
 
     module _ (under later : JobId → Option (Order J)) (keeps : (name : JobId) (order : Order J) → under name ≡ Some order → later name ≡ Some order) where
       note_stays : (note : Note T) (before : Journal T) → PollIsOwed meaning terms seen under note before → PollIsOwed meaning terms now later note before
