@@ -167,8 +167,8 @@ impl Builder {
         self
     }
 
-    /// A core that has work asks its reactor after so much time, also in a run, by [`yield_if_needed`](crate::yield_if_needed). Between two runs it asks
-    /// each 25 µs at most. At first it is 25 µs.
+    /// A core that has work asks its reactor after so much time, also in a run, by [`yield_if_needed`](crate::yield_if_needed). At first it is 25 µs.
+    /// Between two runs at least 25 µs pass.
     pub fn reactor_every(mut self, time: Duration) -> Builder {
         self.setup.reactor_every = time;
         self
