@@ -169,10 +169,9 @@ impl<'a> Driver<'a> {
                 self.core.hand_on(self.taker())?;
                 (self.writes, self.is_unwritten) = (now + WRITTEN_EVERY, false);
             }
-            let asks = self.local.reactor.asks(now);
             if is_idle {
                 self.tell_quiet(has_told);
-                self.sleep(now, has_told, asks)?;
+                self.sleep(now, has_told, self.local.reactor.asks(now))?;
             } else if self.local.reactor.asks_between(now) {
                 self.local.reactor.wait(Duration::ZERO, Duration::MAX)?;
             } else {
